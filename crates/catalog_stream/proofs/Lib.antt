@@ -2,3 +2,4 @@ pub mod Objects
 pub mod Scanning
 pub mod Extents
 pub mod Turns
+pub mod Depths

@@ -7,7 +7,7 @@ use Rattle.catalog_stream.specs.declared.scan.Extent.TheVariants.{Ends, Deep, Op
 use Rattle.catalog_stream.specs.declared.blobs.StreamFault.{StreamFault}
 use Rattle.catalog_stream.specs.declared.blobs.StreamFault.TheVariants.{NotObject}
 use Rattle.catalog_stream.specs.Depth.{extent, IsWithin}
-use Rattle.catalog_stream.specs.Stream.{BlobView, Stream, object_of, object_or_syntax, by_extent, blob_at, blanks, next, and_on, blobs_within, blobs_from, blobs, before}
+use Rattle.catalog_stream.specs.Stream.{BlobView, Stream, object_of, object_or_syntax, by_extent, blob_at, start_after, next, and_on, blobs_within, blobs_from, blobs, before}
 use Rattle.catalog_stream.proofs.Extents.{extent_within}
 
 -- a blob ends behind this place, and no further than at that one
@@ -35,7 +35,7 @@ onward_at text at limit start (byte ∷ bytes) p q = onward_byte text at limit s
 
 pub next_onward : (text : List ℕ) (at : ℕ) → IsOnward at (length text) (next text at)
 next_onward text at =
-    let start = at + blanks (drop at text) in
+    let start = start_after text at in
     onward_at text at (length text) start (drop start text) (omega arith) (λ h. omega (arith, length-drop start text, h))
 
 -- two ways to go on that agree at all later places

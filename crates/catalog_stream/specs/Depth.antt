@@ -1,5 +1,5 @@
 -- How many brackets stand open at a place of a text, and where the brackets of an object close.
-use Rattle.std.specs.Prelude.{ℕ, zero, suc, ◌+◌, ◌-◌, ◌==◌, ◌||◌, List, Bool, if◌then◌else◌, Option, Some, None, fold, take, length, ◌≡◌, ◌≢◌, ◌≤◌, ◌<◌, ⊤}
+use Rattle.std.specs.Prelude.{ℕ, zero, suc, ◌+◌, ◌-◌, ◌==◌, ◌||◌, List, Bool, if◌then◌else◌, Option, Some, None, fold, take, drop, length, ◌≡◌, ◌≢◌, ◌≤◌, ◌<◌, ⊤}
 use Rattle.catalog_stream.specs.declared.scan.Mode.{Mode}
 use Rattle.catalog_stream.specs.declared.scan.Mode.TheVariants.{Outside, Quoted, Escaped}
 use Rattle.catalog_stream.specs.declared.scan.Seen.{Seen}
@@ -64,3 +64,7 @@ abbrev pub IsExtent : List ℕ → Extent → Type 0
 IsExtent text (Ends k) = (0 < k) × (k ≤ length text) × (depth text k ≡ 0) × StaysOpen text (k - 1)
 IsExtent text (Deep place) = (place < length text) × (depth text (place + 1) ≡ 128) × StaysOpen text place
 IsExtent text Open = StaysOpen text (length text)
+
+-- counted from the text's beginning or from this place on, the depths behind it are the same
+abbrev pub CountsFrom : List ℕ → ℕ → Type 0
+CountsFrom text start = (k : ℕ) → depth text (start + k) ≡ depth (drop start text) k

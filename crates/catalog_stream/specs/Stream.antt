@@ -6,7 +6,7 @@ use Rattle.serde_json.specs.Data.{Data}
 use Rattle.serde_json.specs.Find.{as_object}
 use Rattle.serde_json.specs.Read.{read}
 use Rattle.serde_json.specs.View.{view}
-use Rattle.catalog_stream.specs.Depth.{extent}
+use Rattle.catalog_stream.specs.Depth.{extent, CountsFrom}
 use Rattle.catalog_stream.specs.declared.scan.Extent.{Extent}
 use Rattle.catalog_stream.specs.declared.scan.Extent.TheVariants.{Ends, Deep, Open}
 use Rattle.catalog_stream.specs.declared.blobs.Blob.{Blob}
@@ -64,9 +64,13 @@ abbrev pub blob_at : List ℕ → ℕ → List ℕ → Result (Option BlobView) 
 blob_at text start [] = Ok None
 blob_at text start (byte ∷ bytes) = if byte == 123 then by_extent text start (byte ∷ bytes) (extent (byte ∷ bytes)) else Err (NotObject start)
 
+-- the first place from there on that has no blank
+abbrev pub start_after : List ℕ → ℕ → ℕ
+start_after text at = at + blanks (drop at text)
+
 -- What stands next from a place on, behind blanks: None at the text's end; else what is no `{`, the bracket that is too deep, the text's end before the extent's, or an extent that is no JSON object, in this order; else the blob.
 abbrev pub next : List ℕ → ℕ → Result (Option BlobView) StreamFault
-next text at = let start = at + blanks (drop at text) in blob_at text start (drop start text)
+next text at = blob_at text (start_after text at) (drop (start_after text at) text)
 
 -- the place at which reading goes on: behind the blob, and at the text's end where there is none
 abbrev pub place_after : List ℕ → Option Blob → ℕ
@@ -105,6 +109,11 @@ Takes is_free whole rest (Err fault) = is_free fault ≡ false → whole ≡ rec
 -- the stream that a text is
 abbrev pub blobs : List ℕ → Stream
 blobs text = blobs_from text 0
+
+-- from each blob's start on, and from that of what stands behind the last one, the depths are those of the whole text
+abbrev pub CountsWhole : List ℕ → ℕ → List BlobView → Type 0
+CountsWhole text at [] = CountsFrom text (start_after text at)
+CountsWhole text at (blob ∷ blobs) = CountsFrom text blob.start × CountsWhole text blob.end blobs
 
 -- all blobs, or the fault that ends them
 abbrev pub all_or_fault : List BlobView → Option StreamFault → Result (List BlobView) StreamFault

@@ -1,5 +1,5 @@
 // The blobs of a text, one after another.
-ghost use Rattle.std.specs.Prelude.{◌≡◌, ◌<◌, ◌≤◌, IfOk, IfSome, OnErr, length, option_map};
+ghost use Rattle.std.specs.Prelude.{List, ℕ, ◌≡◌, ◌<◌, ◌≤◌, IfOk, IfSome, OnErr, length, option_map};
 ghost use Rattle.olm_base.specs.Outcome.{Gives};
 ghost use Rattle.serde_json.specs.View.{view};
 ghost use Rattle.catalog_stream.specs.Stream as spec;
@@ -175,3 +175,8 @@ pub fn read_blobs(alloc: Global, text: &[u8]) -> Result<Many<Blob>, StreamFault>
         }
     }
 }
+
+/// The law of depths: it is one whether brackets are counted from the text's beginning or from a blob's.
+pub fn depth_law()
+    ensures { (text : List ℕ) → spec.CountsWhole text 0 (spec.blobs text).blobs }
+{}

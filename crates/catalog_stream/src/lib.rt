@@ -4,7 +4,7 @@
 mod blobs;
 mod scan;
 
-pub use blobs::{Blob, Blobs, StreamFault, read_blobs};
+pub use blobs::{Blob, Blobs, StreamFault, depth_law, read_blobs};
 pub use scan::extent_law;
 
 #[cfg(test)]

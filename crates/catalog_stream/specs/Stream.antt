@@ -68,7 +68,7 @@ blob_at text start (byte ∷ bytes) = if byte == 123 then by_extent text start (
 abbrev pub start_after : List ℕ → ℕ → ℕ
 start_after text at = at + blanks (drop at text)
 
--- What stands next from a place on, behind blanks: None at the text's end; else what is no `{`, the bracket that is too deep, the text's end before the extent's, or an extent that is no JSON object, in this order; else the blob.
+-- What stands next from a place on, behind blanks. At the text's end nothing. Else the first of these that holds: there is no `{`; a bracket is too deep; the text ends before the extent does; the extent is no JSON object. Else the blob.
 abbrev pub next : List ℕ → ℕ → Result (Option BlobView) StreamFault
 next text at = blob_at text (start_after text at) (drop (start_after text at) text)
 
@@ -100,7 +100,7 @@ blobs_within (suc steps) text at = and_on (blobs_within steps text) (next text a
 abbrev pub blobs_from : List ℕ → ℕ → Stream
 blobs_from text at = blobs_within (suc (length text - at)) text at
 
--- What taking what stands next says of a whole stream, where `rest` is the stream that is left: the whole is the blob and then the rest, or no blob and no fault, or the fault alone.
+-- A stream is the blob that was taken and then the rest; or it has no blob and no fault; or it is the fault alone, free ones aside.
 abbrev pub Takes : (StreamFault → Bool) → Stream → Stream → Result (Option BlobView) StreamFault → Type 0
 Takes is_free whole rest (Ok (Some blob)) = whole ≡ before (blob ∷ []) rest
 Takes is_free whole rest (Ok None) = whole ≡ record { blobs = []; fault = None }

@@ -1,9 +1,9 @@
 -- The walk with the agenda that is kept, and the walk over the chosen list alone.
-use Rattle.std.proofs.Common.{◌≡◌, ℕ, Bool, true, List, [], ◌∷◌, ◌++◌, refl, sym, ap, ◌∙◌, subst, Option, Some, None}
+use Rattle.std.proofs.Common.{◌≡◌, ℕ, Bool, List, [], ◌∷◌, ◌++◌, refl, sym, ap, ◌∙◌, subst, Option, Some, None}
 use Rattle.std.specs.Option.{option_and_then, option_map}
 use Rattle.op_constraints.specs.declared.Constraint.{Constraint}
 use Rattle.op_constraints.specs.Meets.{constraints_of}
-use Rattle.op_constraints.specs.Walks.{is_among, mandatory, dependencies, agenda, passed, waiting, member, walk_from, walk}
+use Rattle.op_constraints.specs.Walks.{is_among, dependencies, agenda, passed, waiting, member, walk_from, walk}
 use Rattle.op_constraints.specs.Agenda.{Standing, after_heads, picked, start, standing_from, standing}
 use Rattle.op_constraints.proofs.WalkLaws.{under, among_append_left}
 use Rattle.op_constraints.proofs.Taking.{passed-twice, agenda-push}

@@ -1,10 +1,10 @@
 -- What a walk keeps as it looks for the next list.
-use Rattle.std.proofs.Common.{◌≡◌, ℕ, zero, suc, ◌+◌, ◌<◌, ◌≤◌, Bool, true, false, cond, List, [], ◌∷◌, ◌++◌, refl, sym, ap, ◌∙◌, subst, arith, inl, inr, length, drop, get_or, drop-cons, append_assoc, add-one}
+use Rattle.std.proofs.Common.{◌≡◌, ℕ, suc, ◌+◌, ◌<◌, ◌≤◌, Bool, List, [], ◌∷◌, ◌++◌, refl, sym, ap, ◌∙◌, arith, inl, inr, length, drop, get_or, drop-cons, add-one}
 use Rattle.std.specs.List.{list_any}
 use Rattle.std.proofs.lemmas.Bool.{cases_Bool, cond-false}
 use Rattle.std.proofs.lemmas.List.{drop_all}
 use Rattle.op_constraints.specs.declared.Constraint.{Constraint}
-use Rattle.op_constraints.specs.Meets.{constraints_of, at}
+use Rattle.op_constraints.specs.Meets.{constraints_of}
 use Rattle.op_constraints.specs.Walks.{is_among, dependencies, agenda, passed, waiting}
 use Rattle.op_constraints.specs.WalkInvariant.{rest, rest_of, Looks}
 

@@ -1,20 +1,15 @@
 -- What a walk keeps as it begins, takes a number and gives one back.
-use Rattle.std.proofs.Common.{◌≡◌, ℕ, zero, suc, ◌+◌, ◌<◌, ◌≤◌, Bool, true, false, not, cond, ◌&&◌, ◌||◌, List, [], ◌∷◌, ◌++◌, refl, sym, ap, ◌∙◌, subst, arith, inl, inr, Option, Some, None, slice_get, length, take, drop, get_or, set, eqb, replicate, append_assoc}
+use Rattle.std.proofs.Common.{◌≡◌, ℕ, zero, suc, ◌<◌, ◌≤◌, Bool, true, false, not, ◌||◌, List, [], ◌∷◌, ◌++◌, refl, sym, ap, ◌∙◌, arith, inl, inr, length, get_or, set, eqb, replicate}
 use std.Path.{fun_ext}
-use Rattle.std.specs.Option.{option_and_then}
 use Rattle.std.specs.List.{list_any, AllByRecursion, IsDistinct}
-use Rattle.std.proofs.lemmas.Bool.{cases_Bool, cases_eq, or_cases, or_left, or_right, or_from, or_parts, and_from, and_parts, eqb-true, eq-eqb, ne_eqb, not-true, not-false, not_from_false, both_ways, false_from_ne_true, cond-true, cond-false}
-use Rattle.std.proofs.lemmas.List.{length-append, length-set, get_or-set_same, get_or-set_other, append-nil}
+use Rattle.std.proofs.lemmas.Bool.{cases_eq, or_cases, or_left, or_right, or_from, or_parts, and_from, and_parts, eqb-true, eq-eqb, ne_eqb, not-true, not_from_false, both_ways}
+use Rattle.std.proofs.lemmas.List.{get_or-set_same, get_or-set_other}
 use Rattle.std.proofs.lemmas.List.Folds.{list_any-append}
 use Rattle.std.proofs.lemmas.Map.Steps.{length-le_from_distinct_below}
-use Rattle.op_constraints.specs.declared.Constraint.{Constraint}
-use Rattle.op_constraints.specs.Meets.{constraints_of, at, IsClosed, IsWithin}
-use Rattle.op_constraints.specs.Walks.{is_among, is_mandatory, mandatory_from, mandatory, dependencies, agenda, passed, waiting, member, walk_from, walk}
+use Rattle.op_constraints.specs.Meets.{at}
+use Rattle.op_constraints.specs.Walks.{is_among}
 use Rattle.op_constraints.specs.Kept.{is_distinct}
-use Rattle.op_constraints.specs.WalkInvariant.{rest_of, rest, Stands, Looks, HasRoom}
-use Rattle.op_constraints.proofs.Keeping.{all-push}
-use Rattle.op_constraints.proofs.WalkLaws.{under, among_append_left}
-use Rattle.op_constraints.proofs.Looking.{rest_of-zero}
+use Rattle.op_constraints.specs.WalkInvariant.{rest}
 
 -- Sets of bits
 

@@ -1,5 +1,5 @@
 -- What a walk keeps as it begins, takes a number and gives one back.
-use Rattle.std.proofs.Common.{◌≡◌, ℕ, zero, suc, ◌+◌, ◌<◌, ◌≤◌, Bool, true, false, not, cond, List, [], ◌∷◌, ◌++◌, refl, sym, ap, ◌∙◌, subst, arith, inl, inr, Option, Some, None, slice_get, length, take, drop, get_or, set, append_assoc, add-zero, eqb}
+use Rattle.std.proofs.Common.{◌≡◌, ℕ, zero, suc, ◌+◌, ◌<◌, ◌≤◌, Bool, true, false, not, cond, List, [], ◌∷◌, ◌++◌, refl, sym, ap, ◌∙◌, subst, arith, inl, inr, Some, None, slice_get, length, take, drop, get_or, set, append_assoc, add-zero, eqb}
 use Rattle.std.specs.List.{list_any, AllByRecursion}
 use Rattle.std.proofs.lemmas.Bool.{cases_Bool, and_from, or_parts, or_cases, or_left, or_right, not_from_false, ne_eqb, or_from, cond-true, cond-false}
 use Rattle.std.proofs.lemmas.List.{length-append, length-set, length-take, append-nil, take_more}
@@ -7,9 +7,9 @@ use Rattle.std.proofs.lemmas.Option.{slice_get_read}
 use Rattle.op_constraints.specs.declared.Constraint.{Constraint}
 use Rattle.op_constraints.specs.declared.Constraint.TheVariants.{Dependency}
 use Rattle.op_constraints.specs.Meets.{constraints_of, constraint_at, at, IsClosed, IsWithin}
-use Rattle.op_constraints.specs.Walks.{is_among, is_mandatory, mandatory_from, mandatory, dependencies, agenda, passed, waiting, first_of, member, walk}
+use Rattle.op_constraints.specs.Walks.{is_among, is_mandatory, mandatory_from, mandatory, dependencies, agenda, passed, waiting, first_of, member}
 use Rattle.op_constraints.specs.Kept.{is_distinct}
-use Rattle.op_constraints.specs.WalkInvariant.{rest_of, rest, Stands, Looks, HasRoom}
+use Rattle.op_constraints.specs.WalkInvariant.{rest_of, rest, Stands, Looks}
 use Rattle.op_constraints.proofs.Keeping.{all-push}
 use Rattle.op_constraints.proofs.Testing.{all-at, none_past}
 use Rattle.op_constraints.proofs.WalkLaws.{among_append_left}

@@ -1,9 +1,9 @@
 -- Walks again, with the agenda that is kept beside the chosen ones: heads are passed from it, and a pick's lists are put to its end.
-use Rattle.std.specs.Prelude.{◌≡◌, ℕ, List, [], ◌∷◌, ◌++◌, Option, Some, None}
-use Rattle.std.specs.Option.{option_and_then, option_map}
+use Rattle.std.specs.Prelude.{ℕ, List, [], ◌∷◌, ◌++◌, Option, Some}
+use Rattle.std.specs.Option.{option_and_then}
 use Rattle.op_constraints.specs.declared.Constraint.{Constraint}
 use Rattle.op_constraints.specs.Meets.{constraints_of}
-use Rattle.op_constraints.specs.Walks.{is_among, mandatory, dependencies, agenda, passed, waiting, member, walk}
+use Rattle.op_constraints.specs.Walks.{is_among, mandatory, dependencies, agenda, passed, member}
 
 -- what is chosen, and the lists that are left
 pub record Standing : Type 0 where

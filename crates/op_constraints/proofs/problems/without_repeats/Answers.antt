@@ -1,4 +1,4 @@
-use Rattle.std.proofs.Common.{◌≡◌, ℕ, Bool, sym, ap, ◌∙◌, get_or, eqb}
+use Rattle.std.proofs.Common.{◌≡◌, Bool, sym, ap, ◌∙◌, get_or, eqb}
 use Rattle.std.specs.HashSet.{contains}
 use Rattle.op_constraints.proofs.Keeping.{once_more-new, once_more-seen, seen_more}
 use Rattle.op_constraints.proofs.problems.without_repeats.Goals as goal

@@ -1,4 +1,4 @@
-use Rattle.std.proofs.Common.{◌≡◌, ℕ, Bool, nat_eq, take}
+use Rattle.std.proofs.Common.{◌≡◌, ℕ, nat_eq, take}
 use Rattle.std.specs.HashSet.{contains}
 use Rattle.op_constraints.specs.Walks.{is_among}
 use Rattle.op_constraints.specs.Kept.{each_once}

@@ -1,8 +1,7 @@
 use Rattle.std.proofs.Common.{◌≡◌, ◌<◌, ◌++◌, ◌∷◌, [], List, ℕ, true, false, sym, ap, ◌∙◌, length, take, get_or, vec_len, vec_capacity, arith}
 use Rattle.std.proofs.lemmas.List.{append-nil, get_or_default}
-use Rattle.std.specs.List.{list_any}
 use Rattle.op_constraints.specs.declared.Constraint.{Constraint}
-use Rattle.op_constraints.specs.Walks.{is_mandatory, mandatory}
+use Rattle.op_constraints.specs.Walks.{mandatory}
 use Rattle.op_constraints.proofs.Taking.{mandatory_more}
 use Rattle.op_constraints.proofs.walks.mandatory_variables.Goals as goal
 use Rattle.op_constraints.proofs.walks.mandatory_variables.Goals.{then-has_mandatory, else-has_mandatory}

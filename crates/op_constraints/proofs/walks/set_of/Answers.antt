@@ -1,4 +1,4 @@
-use Rattle.std.proofs.Common.{◌≡◌, ◌<◌, ℕ, sym, ap, ◌∙◌, ◌++◌, ◌∷◌, [], true, take, get_or, length, set, arith}
+use Rattle.std.proofs.Common.{◌≡◌, ◌<◌, sym, ap, ◌∙◌, ◌++◌, ◌∷◌, [], true, take, get_or, length, arith}
 use Rattle.std.proofs.lemmas.List.{take_more, length-set}
 use Rattle.op_constraints.specs.Meets.{at}
 use Rattle.op_constraints.specs.Walks.{is_among}

@@ -1,8 +1,8 @@
-use Rattle.std.proofs.Common.{◌≡◌, ℕ, ◌<◌, Bool, true, false, List, refl, sym, ap, ◌∙◌, length, get_or, arith}
+use Rattle.std.proofs.Common.{◌≡◌, List, refl, sym, ap, ◌∙◌, length, get_or, arith}
 use Rattle.std.specs.List.{list_all}
 use Rattle.op_constraints.specs.declared.Constraint.{Constraint}
 use Rattle.op_constraints.specs.Tests.{is_within}
-use Rattle.op_constraints.proofs.Testing.{all_within, closed_from_test, not_closed, yes_iff, no_iff, all_tested}
+use Rattle.op_constraints.proofs.Testing.{not_closed, yes_iff, no_iff, all_tested}
 use Rattle.op_constraints.proofs.problems.Problem.closed.Goals as goal
 
 pub returns-then-not-are_within : goal.returns-then-not-are_within

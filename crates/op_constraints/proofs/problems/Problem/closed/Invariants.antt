@@ -1,4 +1,4 @@
-use Rattle.std.proofs.Common.{◌≡◌, true, take, length}
+use Rattle.std.proofs.Common.{◌≡◌, true, take}
 use Rattle.op_constraints.proofs.Testing.{all_within}
 use Rattle.op_constraints.proofs.problems.Problem.closed.Given as goal
 

@@ -1,7 +1,7 @@
-use Rattle.std.proofs.Common.{◌≡◌, ◌+◌, ◌<◌, ◌≤◌, List, [], ◌∷◌, ◌++◌, sym, ap, ◌∙◌, subst, length, map, arith}
+use Rattle.std.proofs.Common.{◌≡◌, ◌<◌, List, [], ◌∷◌, ◌++◌, sym, ap, ◌∙◌, subst, length, arith}
 use Rattle.op_constraints.specs.declared.Constraint.{Constraint}
 use Rattle.op_constraints.specs.declared.TheConstants.{VAR_LIMIT}
-use Rattle.op_constraints.specs.Kept.{kept, IsKept}
+use Rattle.op_constraints.specs.Kept.{IsKept}
 use Rattle.op_constraints.proofs.Keeping.{IsKept-push}
 use Rattle.op_constraints.proofs.problems.Problem.push.Goals as goal
 

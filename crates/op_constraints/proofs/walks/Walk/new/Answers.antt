@@ -1,7 +1,7 @@
-use Rattle.std.proofs.Common.{◌≡◌, ◌<◌, ◌≤◌, ℕ, List, [], sym, ap, ◌∙◌, subst, length, vec_capacity, arith}
+use Rattle.std.proofs.Common.{◌<◌, ℕ, List, sym, ap, ◌∙◌, subst, length, arith}
 use Rattle.std.specs.List.{AllByRecursion}
 use Rattle.op_constraints.specs.Walks.{is_among}
-use Rattle.op_constraints.specs.WalkInvariant.{Stands, HasRoom}
+use Rattle.op_constraints.specs.WalkInvariant.{Stands}
 use Rattle.op_constraints.proofs.Taking.{mandatory-there, stands-begun, looks-begun}
 use Rattle.op_constraints.proofs.walks.Walk.new.Goals as goal
 

@@ -1,4 +1,4 @@
-use Rattle.std.proofs.Common.{◌≡◌, ℕ, ◌<◌, Bool, sym, ap, ◌∙◌, List, [], ◌∷◌, ◌++◌, length, drop, get_or, suc, arith}
+use Rattle.std.proofs.Common.{◌≡◌, ℕ, Bool, sym, ap, ◌∙◌, List, [], ◌∷◌, ◌++◌, drop, suc, arith}
 use Rattle.op_constraints.specs.declared.Constraint.{Constraint}
 use Rattle.op_constraints.specs.Meets.{at, constraints_of}
 use Rattle.op_constraints.specs.Walks.{is_among, passed, dependencies, agenda, waiting, first_of, choice, Walked}

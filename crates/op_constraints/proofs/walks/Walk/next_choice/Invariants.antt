@@ -1,6 +1,5 @@
 use Rattle.std.proofs.Common.{◌≡◌, length, ◌-◌}
 use Rattle.std.specs.Prelude.{vec_capacity}
-use Rattle.op_constraints.specs.Meets.{at}
 use Rattle.op_constraints.specs.WalkInvariant.{Stands, Looks, HasRoom}
 use Rattle.op_constraints.proofs.walks.Walk.next_choice.Given as goal
 

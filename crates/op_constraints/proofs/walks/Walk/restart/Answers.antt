@@ -1,5 +1,5 @@
-use Rattle.std.proofs.Common.{◌≡◌, ◌<◌, ◌≤◌, ◌++◌, ◌∷◌, [], ℕ, List, Bool, false, sym, ap, ◌∙◌, subst, length, set, vec_len, vec_capacity, arith}
-use Rattle.op_constraints.specs.WalkInvariant.{Stands, HasRoom}
+use Rattle.std.proofs.Common.{ℕ, List, subst, arith}
+use Rattle.op_constraints.specs.WalkInvariant.{Stands}
 use Rattle.op_constraints.proofs.Taking.{stands-back, some_chosen}
 use Rattle.op_constraints.proofs.walks.Walk.restart.Goals as goal
 

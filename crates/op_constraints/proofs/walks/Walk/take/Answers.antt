@@ -1,4 +1,4 @@
-use Rattle.std.proofs.Common.{◌≡◌, ◌<◌, ◌≤◌, ◌++◌, ◌∷◌, [], ℕ, List, true, sym, ap, ◌∙◌, subst, length, get_or, set, vec_len, vec_capacity, arith}
+use Rattle.std.proofs.Common.{◌≡◌, ◌∷◌, [], ap, ◌∙◌, length, vec_capacity, arith}
 use Rattle.std.proofs.lemmas.List.{length-append}
 use Rattle.op_constraints.specs.Walks.{Walked, waiting}
 use Rattle.op_constraints.specs.WalkInvariant.{Stands, Looks, HasRoom}

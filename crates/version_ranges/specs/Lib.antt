@@ -1,0 +1,4 @@
+pub mod Versions
+pub mod Terms
+pub mod Shown
+pub mod Conditions

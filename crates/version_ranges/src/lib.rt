@@ -7,5 +7,6 @@
 
 mod condition;
 mod fault;
+mod words;
 
 pub use crate::fault::RangeFault;

@@ -4,4 +4,4 @@ pub mod Shown
 pub mod Conditions
 pub mod Faults
 pub mod Words
-pub mod Outcome
+pub mod Reading

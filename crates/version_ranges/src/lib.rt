@@ -7,6 +7,7 @@
 
 mod condition;
 mod fault;
+mod parsing;
 mod words;
 
 pub use crate::fault::RangeFault;

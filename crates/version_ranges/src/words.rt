@@ -1,18 +1,20 @@
 // The pieces of a range's text: operators, and the words beside them.
 
-ghost use Rattle.std.specs.Prelude.{◌≡◌, ◌<◌, ◌≤◌, ◌^◌, ◌∷◌, [], IfNone, true, IfOk, IfSome, Result};
+ghost use Rattle.std.specs.Prelude.{◌≡◌, ◌==◌, ◌<◌, ◌≤◌, ◌^◌, ◌∷◌, [], IfNone, true, IfOk, IfSome, Result};
 ghost use Rattle.std.specs.Char.{is_ascii_digit};
 ghost use Rattle.std.specs.List.{list_all, list_any, position, slice_split};
 ghost use Rattle.std.specs.Option.{option_map};
 ghost use Rattle.std.specs.Result.{result_ok};
 ghost use Rattle.semver.specs.Identifiers.{parts_of};
 ghost use Rattle.semver.specs.Parse.{version_parts};
-ghost use Rattle.version_ranges.specs.Outcome.{Gives};
+ghost use Rattle.olm_base.specs.Outcome.{Gives};
 ghost use Rattle.version_ranges.specs.Faults.{is_free};
+ghost use Rattle.version_ranges.specs.Shown.{shown_word};
 ghost use Rattle.version_ranges.specs.Words as spec;
 
 use crate::condition::{Operand, Operator, Wildcard};
 use crate::fault::RangeFault;
+use olm_base::Memory;
 use semver::{Error, Version};
 use std::alloc::{AllocError, Global};
 use std::str;
@@ -147,7 +149,7 @@ fn wildcard_of(word: &[u8]) -> Option<Wildcard>
 
 // The version that a word writes, if it writes one.
 #[tactic(auto, unfolding(crate::specs::Words::version_of))]
-fn version_of(alloc: Global, word: &[u8]) -> Result<Option<Version>, AllocError>
+fn version_of(alloc: Global, word: &[u8]) -> Result<Option<Version>, Memory>
     ensures { IfOk result (λ version. option_map parts_of version ≡ spec.version_of word.now) }
 {
     match str::from_utf8(word) {
@@ -156,11 +158,49 @@ fn version_of(alloc: Global, word: &[u8]) -> Result<Option<Version>, AllocError>
             Ok(version) => Ok(Some(version)),
             Err(error) => {
                 if error == Error::from(AllocError) {
-                    Err(AllocError)
+                    Err(Memory)
                 } else {
                     Ok(None)
                 }
             }
+        },
+    }
+}
+
+fn are_wildcard_bytes(word: &[u8]) -> bool
+    ensures { result ≡ list_all spec.is_wildcard_byte word.now }
+{
+    word.iter()
+        .all(|byte| byte.is_ascii_digit() || *byte == b'.' || *byte == b'x')
+}
+
+fn has_x(word: &[u8]) -> bool
+    ensures { result ≡ list_any (λ byte. byte == 120) word.now }
+{
+    word.iter().any(|byte| *byte == b'x')
+}
+
+fn word_fault(word: &[u8], place: usize) -> RangeFault
+    ensures { result ≡ spec.word_fault place word.now }
+{
+    let at = place as u64;
+    if are_wildcard_bytes(word) && has_x(word) {
+        RangeFault::BadWildcard { at }
+    } else {
+        RangeFault::BadVersion { at }
+    }
+}
+
+/// What the word at this place stands for.
+pub(crate) fn read_word(alloc: Global, word: &[u8], place: usize) -> Result<Operand, RangeFault>
+    ensures { Gives is_free (spec.read_word place word.now) (shown_word result) }
+{
+    match version_of(alloc, word) {
+        Err(Memory) => Err(RangeFault::Memory),
+        Ok(Some(version)) => Ok(Operand::Version(version)),
+        Ok(None) => match wildcard_of(word) {
+            Some(wildcard) => Ok(Operand::Wildcard(wildcard)),
+            None => Err(word_fault(word, place)),
         },
     }
 }

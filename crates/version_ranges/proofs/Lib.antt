@@ -1,3 +1,5 @@
 pub mod Numbers
 pub mod Pieces
 pub mod Written
+pub mod Turns
+pub mod Loops

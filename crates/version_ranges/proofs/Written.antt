@@ -102,9 +102,9 @@ of_valid p v =
     let tail : AllWritten (marked 45 p.3 ++ marked 43 p.4) = joined (marked 45 p.3) (marked 43 p.4) (of_pre p.3 v.3) (of_build p.4 v.4) in
     let from_patch : AllWritten (decimal p.2 ++ (marked 45 p.3 ++ marked 43 p.4)) = joined (decimal p.2) (marked 45 p.3 ++ marked 43 p.4) (of_number p.2 v.2) tail in
     let from_minor : AllWritten (decimal p.1 ++ 46 ∷ (decimal p.2 ++ (marked 45 p.3 ++ marked 43 p.4))) =
-        joined (decimal p.1) (46 ∷ (decimal p.2 ++ (marked 45 p.3 ++ marked 43 p.4))) (of_number p.1 v.1) (led 46 (decimal p.2 ++ (marked 45 p.3 ++ marked 43 p.4)) refl from_patch) in
+    joined (decimal p.1) (46 ∷ (decimal p.2 ++ (marked 45 p.3 ++ marked 43 p.4))) (of_number p.1 v.1) (led 46 (decimal p.2 ++ (marked 45 p.3 ++ marked 43 p.4)) refl from_patch) in
     joined (decimal p.0) (46 ∷ (decimal p.1 ++ 46 ∷ (decimal p.2 ++ (marked 45 p.3 ++ marked 43 p.4)))) (of_number p.0 v.0)
-        (led 46 (decimal p.1 ++ 46 ∷ (decimal p.2 ++ (marked 45 p.3 ++ marked 43 p.4))) refl from_minor)
+    (led 46 (decimal p.1 ++ 46 ∷ (decimal p.2 ++ (marked 45 p.3 ++ marked 43 p.4))) refl from_minor)
 
 pub version_bytes : (text : List ℕ) (p : Parts) → version_parts text ≡ Ok p → AllWritten text
 version_bytes text p h =

@@ -45,7 +45,7 @@ abbrev pub word_at : ℕ → List ℕ → Result Bound RangeFault
 word_at place rest = read_word (place + word_start rest) (word_run rest)
 
 -- The condition that stands next, and the number of its bytes.
-abbrev pub condition_at : ℕ → List ℕ → Result (Term × ℕ) RangeFault
+unfoldable pub condition_at : ℕ → List ℕ → Result (Term × ℕ) RangeFault
 condition_at place rest =
     and_then (operator_at place rest) (λ operator.
     and_then (word_at place rest) (λ bound.
@@ -62,7 +62,7 @@ conditions_turn others place rest =
     if ends (drop (spaces rest) rest) then Ok ([], spaces rest)
     else and_then (condition_at (place + spaces rest) (drop (spaces rest) rest)) (λ first.
     after_conditions (first.0 ∷ []) (spaces rest + first.1)
-        (others (place + (spaces rest + first.1)) (drop (spaces rest + first.1) rest)))
+    (others (place + (spaces rest + first.1)) (drop (spaces rest + first.1) rest)))
 
 -- The conditions in so many turns.
 unfoldable pub conditions_from : ℕ → ℕ → List ℕ → Result (List Term × ℕ) RangeFault

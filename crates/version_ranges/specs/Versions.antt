@@ -9,7 +9,7 @@ use Rattle.semver.specs.Parse.{Parts}
 abbrev pub precedence : Parts → Parts → Ordering
 precedence a b =
     ordering_then (nat_cmp a.0 b.0) (ordering_then (nat_cmp a.1 b.1)
-        (ordering_then (nat_cmp a.2 b.2) (pre_cmp a.3 b.3)))
+    (ordering_then (nat_cmp a.2 b.2) (pre_cmp a.3 b.3)))
 
 -- The version of three numbers, which are whole numbers without a limit, with no pre-release.
 abbrev pub release : ℕ → ℕ → ℕ → Parts

@@ -8,6 +8,8 @@
 mod condition;
 mod fault;
 mod parsing;
+mod range;
 mod words;
 
 pub use crate::fault::RangeFault;
+pub use crate::range::Range;

@@ -82,6 +82,7 @@ fn ends(rest: &[u8]) -> bool
 }
 
 // The condition that stands next, and the number of its bytes.
+#[tactic(auto, unfolding(crate::specs::Reading::condition_at))]
 fn read_condition(
     alloc: Global,
     rest: &[u8],
@@ -99,5 +100,88 @@ fn read_condition(
     match read_word(alloc, word, place + start) {
         Ok(operand) => Ok((Condition::new(operator, operand), start + word.len())),
         Err(fault) => Err(fault),
+    }
+}
+
+// The conditions up to the end of their alternative, and the number of bytes before that end.
+fn read_conditions(
+    alloc: Global,
+    rest: &[u8],
+    place: usize,
+) -> Result<(Many<Condition>, usize), RangeFault>
+    requires { place + length rest.now < 2 ^ 64 }
+    ensures answer { Gives is_free (spec.conditions place rest.now) result }
+    ensures within { IfOk result (λ read. read.1 ≤ length rest.now) }
+    ensures bars { IfOk result (λ read. read.1 ≢ length rest.now → read.1 + 2 ≤ length rest.now) }
+{
+    let mut conditions = Many::new(alloc);
+    let mut at: usize = 0;
+    'conditions: loop {
+        let start = at + count_spaces(&rest[at..]);
+        let here = &rest[start..];
+        if ends(here) {
+            return Ok((conditions, start));
+        }
+        match read_condition(alloc, here, place + start) {
+            Ok((condition, count)) => {
+                match conditions.push(condition) {
+                    Ok(()) => {}
+                    Err(Memory) => return Err(RangeFault::Memory),
+                }
+                at = start + count;
+            }
+            Err(fault) => return Err(fault),
+        }
+    }
+}
+
+// The alternative that stands next, and the number of bytes before its end.
+fn read_alternative(
+    alloc: Global,
+    rest: &[u8],
+    place: usize,
+) -> Result<(Many<Condition>, usize), RangeFault>
+    requires { place + length rest.now < 2 ^ 64 }
+    ensures answer { Gives is_free (spec.alternative_at place rest.now) result }
+    ensures within { IfOk result (λ read. read.1 ≤ length rest.now) }
+    ensures bars { IfOk result (λ read. read.1 ≢ length rest.now → read.1 + 2 ≤ length rest.now) }
+{
+    match read_conditions(alloc, rest, place) {
+        Ok((conditions, count)) => {
+            if conditions.as_slice().is_empty() {
+                return Err(RangeFault::Empty {
+                    at: (place + count) as u64,
+                });
+            }
+            Ok((conditions, count))
+        }
+        Err(fault) => Err(fault),
+    }
+}
+
+/// The alternatives of a range's text.
+pub(crate) fn read_alternatives(
+    alloc: Global,
+    text: &[u8],
+) -> Result<Many<Many<Condition>>, RangeFault>
+    ensures { Gives is_free (spec.reading text.now) result }
+{
+    let mut alternatives = Many::new(alloc);
+    let mut at: usize = 0;
+    'alternatives: loop {
+        match read_alternative(alloc, &text[at..], at) {
+            Ok((conditions, count)) => {
+                match alternatives.push(conditions) {
+                    Ok(()) => {}
+                    Err(Memory) => return Err(RangeFault::Memory),
+                }
+                let end = at + count;
+                if end == text.len() {
+                    return Ok(alternatives);
+                }
+                at = end + 2;
+            }
+            Err(fault) => return Err(fault),
+        }
     }
 }

@@ -170,8 +170,7 @@ fn version_of(alloc: Global, word: &[u8]) -> Result<Option<Version>, Memory>
 fn are_wildcard_bytes(word: &[u8]) -> bool
     ensures { result ≡ list_all spec.is_wildcard_byte word.now }
 {
-    word.iter()
-        .all(|byte| byte.is_ascii_digit() || *byte == b'.' || *byte == b'x')
+    word.iter().all(|byte| byte.is_ascii_digit() || *byte == b'.' || *byte == b'x')
 }
 
 fn has_x(word: &[u8]) -> bool

@@ -1,6 +1,6 @@
 // What one condition asks of a version.
 
-ghost use Rattle.std.specs.Prelude.{◌≡◌, ◌+◌};
+ghost use Rattle.std.specs.Prelude.{◌≡◌, ◌+◌, IfOk};
 ghost use Rattle.std.specs.Ordering.{nat_cmp};
 ghost use Rattle.semver.specs.Identifiers.{parts_of};
 ghost use Rattle.version_ranges.specs.Versions.{precedence, release};
@@ -139,6 +139,32 @@ impl Condition {
                 cmp_start(version, *wildcard),
                 cmp_end(version, *wildcard),
             ),
+        }
+    }
+}
+
+// A version with the same numbers and texts.
+fn clone_version(version: &Version) -> Result<Version, AllocError>
+    ensures { IfOk result (λ copy. parts_of copy ≡ parts_of version.now) }
+{
+    Ok(version.clone()?)
+}
+
+impl Clone for Condition {
+    ghost use Rattle.std.specs.Prelude.{◌≡◌};
+
+    ghost is_clone = { λ condition copy. copy ≡ condition };
+
+    fn clone(&self) -> Result<Condition, AllocError> {
+        match &self.operand {
+            Operand::Version(version) => Ok(Condition {
+                operator: self.operator,
+                operand: Operand::Version(clone_version(version)?),
+            }),
+            Operand::Wildcard(wildcard) => Ok(Condition {
+                operator: self.operator,
+                operand: Operand::Wildcard(*wildcard),
+            }),
         }
     }
 }

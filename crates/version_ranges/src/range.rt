@@ -68,3 +68,15 @@ impl Range {
         one_holds(self.alternatives.as_slice(), version)
     }
 }
+
+impl Clone for Range {
+    ghost use Rattle.std.specs.Prelude.{◌≡◌};
+
+    ghost is_clone = { λ range copy. copy ≡ range };
+
+    fn clone(&self) -> Result<Range, AllocError> {
+        Ok(Range {
+            alternatives: self.alternatives.clone()?,
+        })
+    }
+}

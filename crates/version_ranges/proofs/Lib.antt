@@ -3,3 +3,5 @@ pub mod Pieces
 pub mod Written
 pub mod Turns
 pub mod Loops
+pub mod Joined
+pub mod Plain

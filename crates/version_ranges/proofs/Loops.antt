@@ -12,11 +12,11 @@ use Rattle.version_ranges.proofs.Turns.{Found, Read, alternatives_by_turn, condi
 -- ---- conditions
 
 -- the conditions of a rest, where the alternative ends behind its spaces
-at_end : (place : ℕ) (rest : List ℕ) → ends (drop (spaces rest) rest) ≡ true → conditions place rest ≡ Ok ([], spaces rest)
+pub at_end : (place : ℕ) (rest : List ℕ) → ends (drop (spaces rest) rest) ≡ true → conditions place rest ≡ Ok ([], spaces rest)
 at_end place rest e = conditions_by_turn place rest ∙ rw e refl
 
 -- and where a condition stands there
-at_condition : (place : ℕ) (rest : List ℕ) (r : Result (Term × ℕ) RangeFault) → ends (drop (spaces rest) rest) ≡ false
+pub at_condition : (place : ℕ) (rest : List ℕ) (r : Result (Term × ℕ) RangeFault) → ends (drop (spaces rest) rest) ≡ false
     → condition_at (place + spaces rest) (drop (spaces rest) rest) ≡ r
     → conditions place rest ≡ and_then r (λ first. after_conditions (first.0 ∷ []) (spaces rest + first.1) (conditions (place + (spaces rest + first.1)) (drop (spaces rest + first.1) rest)))
 at_condition place rest r e h = conditions_by_turn place rest ∙ rw (e, h) refl

@@ -7,9 +7,11 @@
 
 mod condition;
 mod fault;
+mod laws;
 mod parsing;
 mod range;
 mod words;
 
 pub use crate::fault::RangeFault;
+pub use crate::laws::{joined_law, plain_law, precedence_law, turns_law, version_law};
 pub use crate::range::Range;

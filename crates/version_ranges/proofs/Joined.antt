@@ -1,20 +1,19 @@
 -- The reading of two texts joined by `||`.
-use Rattle.std.proofs.Common.{◌≡◌, ◌+◌, ◌-◌, ◌<◌, ◌≤◌, ◌==◌, ℕ, zero, suc, List, [], ◌∷◌, ◌++◌, Bool, true, false, Option, Some, None, Result, Ok, Err, length, take, drop, cond, refl, sym, ap, ◌∙◌, arith, inl, inr, append_assoc, add_assoc}
-use Rattle.std.specs.Prelude.{◌&&◌, ◌||◌}
+use Rattle.std.proofs.Common.{◌≡◌, ◌+◌, ◌<◌, ◌≤◌, ◌==◌, ℕ, zero, suc, List, [], ◌∷◌, ◌++◌, Bool, true, false, Option, Some, None, Result, Ok, Err, length, drop, refl, sym, ap, ◌∙◌, arith, inl, inr}
+use Rattle.std.specs.Prelude.{◌&&◌}
 use Rattle.std.proofs.lemmas.Bool.{cases_Bool, eqb-true}
 use Rattle.std.proofs.lemmas.List.{drop-append-le, drop-drop, length-drop, take-append-le}
-use Rattle.std.proofs.lemmas.List.Folds.{length-prefix_len, list_any-append}
+use Rattle.std.proofs.lemmas.List.Folds.{length-prefix_len}
 use Rattle.std.proofs.lemmas.List.Sums.{prefix_len-le-length}
 use Rattle.std.specs.List.{prefix_len, take_while}
 use Rattle.std.specs.Option.{ok_or}
-use Rattle.version_ranges.specs.Reading.{after_alternatives, after_conditions, alternative_at, alternatives, alternatives_turn, and_others, and_then, condition_at, conditions, ends, filled, operator_at, operator_run, spaces, word_at, word_run, word_start}
-use Rattle.version_ranges.specs.Terms.{Bound, Term}
-use Rattle.version_ranges.specs.Words.{bound_of_word, is_operator_byte, is_space, is_word_byte, operator_of, read_word, word_fault}
-use Rattle.version_ranges.specs.declared.condition.Operator.{Operator}
+use Rattle.version_ranges.specs.Reading.{after_alternatives, after_conditions, alternative_at, alternatives, and_others, and_then, condition_at, conditions, ends, filled, operator_at, operator_run, spaces, word_at, word_run, word_start}
+use Rattle.version_ranges.specs.Terms.{Term}
+use Rattle.version_ranges.specs.Words.{bound_of_word, is_operator_byte, is_space, is_word_byte, operator_of, read_word}
 use Rattle.version_ranges.specs.declared.fault.RangeFault.{RangeFault}
 use Rattle.version_ranges.specs.declared.fault.RangeFault.TheVariants.{BadOperator}
 use Rattle.version_ranges.proofs.Loops.{at_condition, at_end}
-use Rattle.version_ranges.proofs.Turns.{Found, Parted, Read, alternatives_by_turn, has_bytes, no_word, parted, same_value, step_there}
+use Rattle.version_ranges.proofs.Turns.{Found, Read, alternatives_by_turn, has_bytes, no_word, parted, same_value, step_there}
 
 -- `||` and what follows it
 abbrev pub behind_bars : List ℕ → List ℕ

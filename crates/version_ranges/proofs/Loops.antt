@@ -1,9 +1,9 @@
 -- One turn of the loops that read a range, in the form that the code's slices have.
-use Rattle.std.proofs.Common.{◌≡◌, ◌+◌, ◌-◌, ◌<◌, ◌≤◌, ℕ, suc, List, [], ◌∷◌, ◌++◌, Bool, true, false, Result, Ok, Err, length, take, drop, refl, sym, ap, ◌∙◌, arith, append_assoc, add_assoc, append-nil}
+use Rattle.std.proofs.Common.{◌≡◌, ◌+◌, ◌-◌, ◌<◌, ℕ, List, [], ◌∷◌, ◌++◌, Bool, true, false, Result, Ok, Err, length, take, drop, refl, sym, ap, ◌∙◌, arith, append_assoc, add_assoc, append-nil}
 use Rattle.std.proofs.lemmas.List.{drop-drop, length-drop, take_rest}
 use Rattle.std.proofs.Math.ListN.{drop_of_length-le}
 use Rattle.std.specs.List.{prefix_len}
-use Rattle.version_ranges.specs.Reading.{after_alternatives, after_conditions, alternative_at, alternatives, alternatives_turn, and_others, and_then, condition_at, conditions, conditions_turn, ends, spaces}
+use Rattle.version_ranges.specs.Reading.{after_alternatives, after_conditions, alternative_at, alternatives, and_others, and_then, condition_at, conditions, ends, spaces}
 use Rattle.version_ranges.specs.Terms.{Term}
 use Rattle.version_ranges.specs.Words.{is_space}
 use Rattle.version_ranges.specs.declared.fault.RangeFault.{RangeFault}

@@ -1,26 +1,23 @@
 -- The reading of one operator and one version.
-use Rattle.std.proofs.Common.{◌≡◌, ◌+◌, ◌<◌, ◌≤◌, ◌==◌, ℕ, suc, List, [], ◌∷◌, ◌++◌, Bool, true, false, Option, Some, None, Result, Ok, Err, length, take, drop, refl, sym, ap, ◌∙◌, arith, inl, inr, append-nil}
+use Rattle.std.proofs.Common.{◌≡◌, ◌+◌, ◌<◌, ◌==◌, ℕ, List, [], ◌∷◌, ◌++◌, Bool, true, false, Some, Result, Ok, Err, length, take, drop, refl, sym, ap, ◌∙◌, arith, inl, inr, append-nil}
 use Rattle.std.specs.Prelude.{◌&&◌, ◌||◌, ◌⊎◌, codes, not}
 use Rattle.std.proofs.lemmas.Bool.{cases_Bool, eqb-true}
 use Rattle.std.proofs.lemmas.Bool.Decides.{nat_tests}
 use Rattle.std.proofs.lemmas.List.{drop_at, take_at, length-append}
 use Rattle.std.proofs.lemmas.List.Folds.{list_all-append}
 use Rattle.std.proofs.Math.Seq.{drop-length, take-length}
-use Rattle.std.proofs.Math.ListN.{drop_of_length-le}
 use Rattle.std.specs.List.{list_all, prefix_len, take_while}
 use Rattle.std.specs.Result.{result_ok}
 use Rattle.semver.specs.OrderLaws.{same_text}
 use Rattle.semver.specs.Parse.{Parts, version_parts}
 use Rattle.semver.specs.declared.error.Error.{Error}
-use Rattle.version_ranges.specs.Reading.{after_conditions, alternative_at, alternatives, and_others, and_then, condition_at, conditions, ends, operator_at, operator_run, reading, spaces, word_at, word_run, word_start}
-use Rattle.version_ranges.specs.Terms.{Bound, Exact, Term}
-use Rattle.version_ranges.specs.Words.{is_operator_byte, is_space, is_text, is_word_byte, operator_of, read_word, version_of}
+use Rattle.version_ranges.specs.Reading.{after_conditions, alternative_at, alternatives, and_others, and_then, condition_at, conditions, ends, operator_run, reading, spaces, word_run, word_start}
+use Rattle.version_ranges.specs.Terms.{Exact, Term}
+use Rattle.version_ranges.specs.Words.{is_operator_byte, is_space, is_text, is_word_byte, operator_of, version_of}
 use Rattle.version_ranges.specs.declared.condition.Operator.{Operator}
-use Rattle.version_ranges.specs.declared.condition.Operator.TheVariants.{Equal, Unequal, Below, AtMost, Above, AtLeast}
-use Rattle.version_ranges.specs.declared.fault.RangeFault.{RangeFault}
 use Rattle.version_ranges.proofs.Joined.{by_pieces, condition_of}
 use Rattle.version_ranges.proofs.Loops.{at_condition, at_end}
-use Rattle.version_ranges.proofs.Turns.{alternatives_by_turn, no_word}
+use Rattle.version_ranges.proofs.Turns.{alternatives_by_turn}
 use Rattle.version_ranges.proofs.Written.{AllWritten, is_version_byte, version_bytes}
 
 -- ---- the bytes of an operator

@@ -1,12 +1,10 @@
 -- The turns of reading a range: the number of turns doesn't matter once it is above the number of bytes.
-use Rattle.std.proofs.Common.{◌≡◌, ◌+◌, ◌-◌, ◌<◌, ◌≤◌, ℕ, zero, suc, List, [], ◌∷◌, ◌++◌, Bool, true, false, Option, Some, None, Result, Ok, Err, length, take, drop, refl, sym, ap, ◌∙◌, arith, append_assoc, add_assoc, append-nil}
+use Rattle.std.proofs.Common.{◌≡◌, ◌+◌, ◌<◌, ℕ, zero, suc, List, [], ◌∷◌, Bool, true, false, Result, Ok, Err, length, drop, refl, sym, ap, arith}
 use Rattle.std.specs.Prelude.{if◌then◌else◌}
-use Rattle.std.proofs.lemmas.List.{drop-drop, length-drop, take_rest}
-use Rattle.std.specs.List.{prefix_len}
-use Rattle.std.specs.Option.{ok_or}
-use Rattle.version_ranges.specs.Reading.{after_alternatives, after_conditions, alternative_at, alternatives, alternatives_from, alternatives_turn, and_others, and_then, condition_at, conditions, conditions_from, conditions_turn, ends, filled, operator_at, reading, spaces, word_at, word_run, word_start}
+use Rattle.std.proofs.lemmas.List.{length-drop}
+use Rattle.version_ranges.specs.Reading.{after_alternatives, after_conditions, alternative_at, alternatives, alternatives_from, alternatives_turn, and_others, and_then, condition_at, conditions, conditions_from, conditions_turn, ends, operator_at, spaces, word_at, word_run, word_start}
 use Rattle.version_ranges.specs.Terms.{Bound, Term}
-use Rattle.version_ranges.specs.Words.{bound_of_word, is_space, read_word, version_of, word_fault}
+use Rattle.version_ranges.specs.Words.{read_word, version_of}
 use Rattle.version_ranges.specs.declared.condition.Operator.{Operator}
 use Rattle.version_ranges.specs.declared.fault.RangeFault.{RangeFault}
 

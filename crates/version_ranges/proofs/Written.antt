@@ -1,6 +1,6 @@
 -- The bytes of a version.
 use Rattle.std.proofs.Common.{◌≡◌, ◌+◌, ◌<◌, ◌%◌, ◌^◌, ◌==◌, ℕ, zero, suc, List, [], ◌∷◌, ◌++◌, Bool, true, false, Ok, Err, None, refl, arith, inl, inr, IsUtf8}
-use Rattle.std.specs.Prelude.{◌&&◌, ◌||◌, Option, Result, nat_le, nat_lt, not, length}
+use Rattle.std.specs.Prelude.{◌&&◌, ◌||◌, Option, Result}
 use Rattle.std.proofs.lemmas.Bool.{cases_Bool, eqb-true}
 use Rattle.std.proofs.lemmas.Bool.Decides.{nat_tests}
 use Rattle.std.proofs.lemmas.List.Folds.{list_all-append}

@@ -1,5 +1,5 @@
 -- Which versions a condition, and a range, hold for.
-use Rattle.std.specs.Prelude.{ℕ, ◌+◌, Bool, ◌&&◌, ◌||◌, List}
+use Rattle.std.specs.Prelude.{◌+◌, Bool, ◌&&◌, ◌||◌, List}
 use Rattle.std.specs.List.{list_all, list_any}
 use Rattle.std.specs.Ordering.{is_eq, is_ne, is_lt, is_le, is_gt, is_ge}
 use Rattle.std.specs.declared.cmp.Ordering.{Ordering}

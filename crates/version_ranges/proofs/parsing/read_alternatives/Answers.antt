@@ -1,4 +1,4 @@
-use Rattle.std.proofs.Common.{◌≡◌, ap, ◌∙◌, ◌+◌, ◌<◌, ◌≤◌, ◌-◌, length, drop, take, arith}
+use Rattle.std.proofs.Common.{◌≡◌, ap, ◌∙◌, ◌-◌, length, drop, take, arith}
 use Rattle.std.proofs.lemmas.List.{length-drop, take_rest}
 use Rattle.version_ranges.proofs.Loops.{alternatives_end, alternatives_fault, alternatives_more}
 use Rattle.version_ranges.proofs.parsing.read_alternatives.Goals as goal

@@ -1,4 +1,4 @@
-use Rattle.std.proofs.Common.{◌+◌, ◌<◌, ◌≤◌, ◌-◌, length, drop, take, arith}
+use Rattle.std.proofs.Common.{◌<◌, arith}
 use Rattle.version_ranges.proofs.Loops.{conditions_end, conditions_fault, conditions_more}
 use Rattle.version_ranges.proofs.Turns.{has_bytes}
 use Rattle.version_ranges.proofs.parsing.read_conditions.Goals as goal

@@ -1,0 +1,4 @@
+pub mod Order
+pub mod WalkLaws
+pub mod Full
+pub mod Looking

@@ -2,3 +2,5 @@ pub mod Order
 pub mod WalkLaws
 pub mod Full
 pub mod Looking
+pub mod Keeping
+pub mod Testing

@@ -9,7 +9,7 @@ use Rattle.op_constraints.specs.Meets.{constraints_of, constraint_at, is_true_of
 use Rattle.op_constraints.specs.Walks.{is_among, is_mandatory, mandatory_from, mandatory, dependencies, agenda, passed, waiting}
 
 -- The lists of the agenda
-abbrev HasList : List ℕ → List (List ℕ) → Type 0
+abbrev pub HasList : List ℕ → List (List ℕ) → Type 0
 HasList ms [] = ⊥
 HasList ms (ns ∷ lists) = (ns ≡ ms) ⊎ HasList ms lists
 
@@ -116,7 +116,7 @@ full_meets problem chosen set all m inside full v place c at = met problem chose
 first_list : (n m : List ℕ) (ns ms : List (List ℕ)) → (n ∷ ns) ≡ (m ∷ ms) → n ≡ m
 first_list n m ns ms e = cc
 
-list_passed : (set : ℕ → Bool) (lists : List (List ℕ)) (m : List ℕ) (ms : List (List ℕ)) → passed set lists ≡ m ∷ ms → HasList m lists
+pub list_passed : (set : ℕ → Bool) (lists : List (List ℕ)) (m : List ℕ) (ms : List (List ℕ)) → passed set lists ≡ m ∷ ms → HasList m lists
 list_passed set [] m ms e = absurd (let bad : [] ≡ m ∷ ms = e in cc)
 list_passed set (n ∷ lists) m ms e =
     elim (cases_Bool (list_any set n)) [
@@ -138,7 +138,7 @@ list_in m [] ys h = inr h
 list_in m (x ∷ xs) ys (inl e) = inl (inl e)
 list_in m (x ∷ xs) ys (inr h) = elim (list_in m xs ys h) [ inl a ↦ inl (inr a) | inr b ↦ inr b ]
 
-agenda_place : (problem : List (List Constraint)) (chosen : List ℕ) (m : List ℕ) → HasList m (agenda problem chosen) → (v : ℕ) × (k : ℕ) × (is_among chosen v ≡ true) × (constraint_at problem v k ≡ Some (Dependency m))
+pub agenda_place : (problem : List (List Constraint)) (chosen : List ℕ) (m : List ℕ) → HasList m (agenda problem chosen) → (v : ℕ) × (k : ℕ) × (is_among chosen v ≡ true) × (constraint_at problem v k ≡ Some (Dependency m))
 agenda_place problem [] m h = absurd h
 agenda_place problem (w ∷ ws) m h =
     elim (list_in m (dependencies (constraints_of problem w)) (agenda problem ws) h) [

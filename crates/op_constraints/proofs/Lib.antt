@@ -4,3 +4,6 @@ pub mod Full
 pub mod Looking
 pub mod Keeping
 pub mod Testing
+pub mod Standing
+pub mod Steps
+pub mod Taking

@@ -28,7 +28,7 @@ rest_at : (problem : List (List Constraint)) (chosen : List ℕ) (index place v 
 rest_at problem chosen index place v h e =
     ap (λ vs. rest_of problem vs place) (drop-cons chosen index v h ∙ ap (λ w. w ∷ drop (suc index) chosen) (sym e))
 
-rest_of-zero : (problem : List (List Constraint)) (vs : List ℕ) → rest_of problem vs 0 ≡ agenda problem vs
+pub rest_of-zero : (problem : List (List Constraint)) (vs : List ℕ) → rest_of problem vs 0 ≡ agenda problem vs
 rest_of-zero problem [] = refl
 rest_of-zero problem (v ∷ vs) = refl
 

@@ -153,3 +153,11 @@ waiting_member problem chosen set m ms meets inside w =
       | inl out ↦ absurd (both_ways (set v) (not-true (set v) out) (inside v is))
       | inr some ↦ some
     ]
+
+-- A mandatory variable with an empty list is met by no set
+pub none_meets : (problem : List (List Constraint)) (v i j : ℕ) → constraint_at problem v i ≡ Some Mandatory → constraint_at problem v j ≡ Some (Dependency []) → (set : ℕ → Bool) → Meets problem set → ⊥
+none_meets problem v i j m d set meets =
+    elim (or_cases (not (set v)) false (meets v j (Dependency []) d)) [
+      | inl out ↦ both_ways (set v) (not-true (set v) out) (meets v i Mandatory m)
+      | inr bad ↦ both_ways false refl bad
+    ]

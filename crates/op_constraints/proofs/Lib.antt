@@ -7,3 +7,6 @@ pub mod Testing
 pub mod Standing
 pub mod Steps
 pub mod Taking
+pub mod Prefixes
+pub mod AgendaLaws
+pub mod FirstWalk

@@ -10,7 +10,7 @@ use Rattle.op_constraints.proofs.WalkLaws.{under}
 abbrev pub one_more : List (List Constraint) → ℕ → List ℕ → Option (List ℕ)
 one_more problem k end = option_and_then (λ v. Some (end ++ v ∷ [])) (member (waiting problem end) k)
 
-chained : (o : Option ℕ) (f h : ℕ → Option (List ℕ)) (g : List ℕ → Option (List ℕ)) → ((v : ℕ) → f v ≡ option_and_then g (h v)) → option_and_then f o ≡ option_and_then g (option_and_then h o)
+pub chained : (o : Option ℕ) (f h : ℕ → Option (List ℕ)) (g : List ℕ → Option (List ℕ)) → ((v : ℕ) → f v ≡ option_and_then g (h v)) → option_and_then f o ≡ option_and_then g (option_and_then h o)
 chained None f h g e = refl
 chained (Some v) f h g e = e v
 

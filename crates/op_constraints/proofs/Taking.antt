@@ -21,7 +21,7 @@ use Rattle.op_constraints.proofs.Standing.{at-add, at-remove, distinct-push, dis
 -- The list that waits
 
 -- it holds nothing chosen
-passed-none : (f : ℕ → Bool) (lists : List (List ℕ)) (m : List ℕ) (ms : List (List ℕ)) → passed f lists ≡ m ∷ ms → list_any f m ≡ false
+pub passed-none : (f : ℕ → Bool) (lists : List (List ℕ)) (m : List ℕ) (ms : List (List ℕ)) → passed f lists ≡ m ∷ ms → list_any f m ≡ false
 passed-none f [] m ms e = absurd (let bad : [] ≡ m ∷ ms = e in cc)
 passed-none f (n ∷ lists) m ms e =
     elim (cases_Bool (list_any f n)) [
@@ -93,7 +93,7 @@ any-more f g (m ∷ ms) h e =
     ]
 
 -- what is passed stays passed as more is chosen
-passed-twice : (f g : ℕ → Bool) (xs ys : List (List ℕ)) → ((v : ℕ) → f v ≡ true → g v ≡ true) → passed g (passed f xs ++ ys) ≡ passed g (xs ++ ys)
+pub passed-twice : (f g : ℕ → Bool) (xs ys : List (List ℕ)) → ((v : ℕ) → f v ≡ true → g v ≡ true) → passed g (passed f xs ++ ys) ≡ passed g (xs ++ ys)
 passed-twice f g [] ys h = refl
 passed-twice f g (x ∷ xs) ys h =
     elim (cases_Bool (list_any f x)) [
@@ -104,7 +104,7 @@ passed-twice f g (x ∷ xs) ys h =
       | inr other ↦ ap (λ zs. passed g (zs ++ ys)) (cond-false (list_any f x) (passed f xs) (x ∷ xs) other)
     ]
 
-agenda-push : (problem : List (List Constraint)) (vs : List ℕ) (v : ℕ) → agenda problem (vs ++ v ∷ []) ≡ agenda problem vs ++ dependencies (constraints_of problem v)
+pub agenda-push : (problem : List (List Constraint)) (vs : List ℕ) (v : ℕ) → agenda problem (vs ++ v ∷ []) ≡ agenda problem vs ++ dependencies (constraints_of problem v)
 agenda-push problem [] v = append-nil (dependencies (constraints_of problem v))
 agenda-push problem (u ∷ us) v =
     ap (λ zs. dependencies (constraints_of problem u) ++ zs) (agenda-push problem us v)
@@ -202,7 +202,7 @@ before-mandatory v n (cs ∷ css) h =
       | inr other ↦ rw other later
     ]
 
-mandatory-once : (n : ℕ) (css : List (List Constraint)) → is_distinct (mandatory_from n css) ≡ true
+pub mandatory-once : (n : ℕ) (css : List (List Constraint)) → is_distinct (mandatory_from n css) ≡ true
 mandatory-once n [] = refl
 mandatory-once n (cs ∷ css) =
     let later = mandatory-once (n + 1) css in

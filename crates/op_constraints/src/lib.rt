@@ -11,7 +11,11 @@ mod problems;
 mod sets;
 mod walks;
 
-pub use laws::{best_is_one, full_meets};
+pub use laws::{
+    agenda_gives_same_walks, best_is_one, chosen_are_picked, empty_dependency_refuses,
+    first_is_best, first_walk_is_one, full_meets, members_stand_once, no_walk_extends_full,
+    waiting_has_member, walks_are_found, walks_are_ordered, walks_go_on,
+};
 use olm_base::Many;
 pub use problems::Problem;
 pub use sets::{VarSet, is_met};

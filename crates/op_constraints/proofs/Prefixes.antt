@@ -135,3 +135,10 @@ succeeding_first problem n s = record {
 pub zeros-push : (n : ℕ) → zeros n ++ 0 ∷ [] ≡ zeros (suc n)
 zeros-push zero = refl
 zeros-push (suc n) = ap (λ ks. 0 ∷ ks) (zeros-push n)
+
+pub zeros-more : (ks : List ℕ) → ks ≡ zeros (length ks) → ks ++ 0 ∷ [] ≡ zeros (length (ks ++ 0 ∷ []))
+zeros-more ks e =
+    let n = length ks in
+    let one = length-append ks (0 ∷ []) in
+    let size : suc n ≡ length (ks ++ 0 ∷ []) = omega (arith, one) in
+    ap (λ xs. xs ++ 0 ∷ []) e ∙ (zeros-push n ∙ ap zeros size)

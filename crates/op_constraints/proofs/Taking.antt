@@ -7,7 +7,7 @@ use Rattle.std.proofs.lemmas.Option.{slice_get_read}
 use Rattle.op_constraints.specs.declared.Constraint.{Constraint}
 use Rattle.op_constraints.specs.declared.Constraint.TheVariants.{Dependency}
 use Rattle.op_constraints.specs.Meets.{constraints_of, constraint_at, at, IsClosed, IsWithin}
-use Rattle.op_constraints.specs.Walks.{is_among, is_mandatory, mandatory_from, mandatory, dependencies, agenda, passed, waiting, member, walk}
+use Rattle.op_constraints.specs.Walks.{is_among, is_mandatory, mandatory_from, mandatory, dependencies, agenda, passed, waiting, first_of, member, walk}
 use Rattle.op_constraints.specs.Kept.{is_distinct}
 use Rattle.op_constraints.specs.WalkInvariant.{rest_of, rest, Stands, Looks, HasRoom}
 use Rattle.op_constraints.proofs.Keeping.{all-push}
@@ -50,6 +50,10 @@ pub waiting-within : (problem : List (List Constraint)) (chosen m : List ℕ) (m
 waiting-within problem chosen m ms h w =
     let (v, k, is, at) = agenda_place problem chosen m (list_passed (is_among chosen) (agenda problem chosen) m ms w) in
     dependency-within problem v k m h at
+
+-- a number below the length of the choice is one of the first list
+pub below-first : (lists : List (List ℕ)) (m : List ℕ) (ms : List (List ℕ)) (number : ℕ) → lists ≡ m ∷ ms → number < length (first_of lists) → number < length m
+below-first lists m ms number e h = subst (λ n. number < n) (ap (λ (ls : List (List ℕ)). length (first_of ls)) e) h
 
 -- The variable that is picked is there and wasn't chosen, so there is room for it
 

@@ -9,6 +9,8 @@
 mod laws;
 mod problems;
 mod sets;
+#[cfg(test)]
+mod tests;
 mod walks;
 
 pub use laws::{

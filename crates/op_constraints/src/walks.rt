@@ -1,9 +1,9 @@
 //! Walks over a problem.
 
-ghost use Rattle.std.specs.Prelude.{◌≡◌, ℕ, [], ◌∷◌, ◌++◌, ◌<◌, ◌≤◌, ◌+◌, suc, IfOk, IfNone, IfSome, Some, None, MatchOption, length, slice_get, drop, Bool, List, true, false, vec_capacity};
+ghost use Rattle.std.specs.Prelude.{◌≡◌, ℕ, [], ◌∷◌, ◌++◌, ◌<◌, ◌≤◌, ◌+◌, suc, IfOk, IfNone, IfSome, Some, None, MatchOption, length, slice_get, drop, Bool, List, true, false, vec_capacity, IsTrue, ◌↔◌};
 ghost use Rattle.std.specs.List.{AllByRecursion, list_any};
 ghost use Rattle.op_constraints.specs.Meets.{at, constraints_of, IsWithin, IsClosed};
-ghost use Rattle.op_constraints.specs.Walks.{is_among, is_mandatory, waiting, choice, walk, passed, dependencies, mandatory, begun, taken};
+ghost use Rattle.op_constraints.specs.Walks.{is_among, is_mandatory, waiting, choice, walk, passed, dependencies, mandatory, begun, taken, IsFirstWalk};
 
 use crate::sets::has_any;
 use crate::{Constraint, Problem, VarId, VarSet};
@@ -126,6 +126,8 @@ impl<'p> Walk<'p> {
         ensures same { self.new ≡ self.old }
         ensures none { IfNone result (waiting self.old.problem self.old.chosen ≡ []) }
         ensures some { IfSome result (λ members. (rest : List (List ℕ)) × (waiting self.old.problem self.old.chosen ≡ members.now ∷ rest)) }
+        ensures list { IfSome result (λ members. members.now ≡ choice self.old.problem self.old.chosen) }
+        ensures walked { walk self.new.problem self.new.numbers ≡ Some self.new.chosen }
     {
         while self.index < self.chosen.len() {
             let constraints = self.problem.constraints(self.chosen[self.index]);
@@ -147,7 +149,7 @@ impl<'p> Walk<'p> {
     pub fn set(&self) -> &VarSet
         ensures size { length result.now ≡ length self.now.problem }
         ensures same { at result.now ≡ is_among self.now.chosen }
-        ensures closed { IsClosed self.now.problem }
+        ensures walked { walk self.now.problem self.now.numbers ≡ Some self.now.chosen }
     {
         &self.set
     }
@@ -163,7 +165,8 @@ impl<'p> Walk<'p> {
     /// Picks the member with this number of the list that is to be chosen from.
     pub fn take(&mut self, number: u32)
         requires { number < length (choice self.old.problem self.old.chosen) }
-        ensures { self.new ≡ taken self.old number }
+        ensures taken { self.new ≡ taken self.old number }
+        ensures few { length self.new.chosen ≤ length self.new.problem }
     {
         if let Some(members) = self.next_choice() {
             let var = members[number as usize];
@@ -171,6 +174,22 @@ impl<'p> Walk<'p> {
             self.chosen.push_reserved(var);
             self.numbers.push_reserved(number);
         }
+    }
+
+    /// Takes number 0 at every choice, up to the end or to a list that is empty, and says whether it is the end.
+    pub fn follow_first(&mut self) -> bool
+        requires { self.old.numbers ≡ [] }
+        ensures problem { self.new.problem ≡ self.old.problem }
+        ensures first { IsFirstWalk self.new.problem self.new.numbers }
+        ensures end { IsTrue result ↔ (waiting self.new.problem self.new.chosen ≡ []) }
+    {
+        while let Some(members) = self.next_choice() {
+            if members.is_empty() {
+                return false;
+            }
+            self.take(0);
+        }
+        true
     }
 
     /// Goes back to the walk that has taken no number. It costs what was taken.

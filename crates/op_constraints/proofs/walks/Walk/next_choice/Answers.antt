@@ -1,7 +1,7 @@
 use Rattle.std.proofs.Common.{◌≡◌, ℕ, ◌<◌, Bool, sym, ap, ◌∙◌, List, [], ◌∷◌, ◌++◌, length, drop, get_or, suc, arith}
 use Rattle.op_constraints.specs.declared.Constraint.{Constraint}
 use Rattle.op_constraints.specs.Meets.{at, constraints_of}
-use Rattle.op_constraints.specs.Walks.{is_among, passed, dependencies, agenda, waiting, Walked}
+use Rattle.op_constraints.specs.Walks.{is_among, passed, dependencies, agenda, waiting, first_of, choice, Walked}
 use Rattle.op_constraints.proofs.Looking.{looks-place, looks-next, waiting-at}
 use Rattle.op_constraints.proofs.walks.Walk.next_choice.Goals as goal
 
@@ -38,6 +38,18 @@ returns-in-Some-clause-some c =
           c.loop-self.invariant.looks (omega arith) c.index.ensures
           (same_lists (at w.set) w.chosen.items cs ds w.place (c.in-Some.members.now ∷ ms) c.loop-self.invariant.stands.same c.constraints-constraints.ensures c.in-Some.ensures.some)),
     )
+
+pub returns-in-Some-clause-list : goal.returns-in-Some-clause-list
+returns-in-Some-clause-list c =
+    let w = c.loop-self.self-inside in
+    let cs = c.constraints-constraints.result.now in
+    let ds = constraints_of w.problem.now c.index.result.now in
+    let ms = dependencies (drop (suc c.in-Some.place) cs) in
+    sym (ap (λ p. choice p c.args.self.now.chosen) (sym (c.loop-self.invariant.problem ∙ ap (λ (s : Walked). s.problem) c.self.view_is))
+    ∙ (ap (λ vs. choice w.problem.now vs) (sym (c.loop-self.invariant.chosen ∙ ap (λ (s : Walked). s.chosen) c.self.view_is))
+    ∙ ap first_of (waiting-at w.problem.now w.chosen.items w.index w.place c.index.result.now c.in-Some.members.now ms
+    c.loop-self.invariant.looks (omega arith) c.index.ensures
+    (same_lists (at w.set) w.chosen.items cs ds w.place (c.in-Some.members.now ∷ ms) c.loop-self.invariant.stands.same c.constraints-constraints.ensures c.in-Some.ensures.some))))
 
 pub loop-self-preserved : goal.loop-self-preserved
 loop-self-preserved c =

@@ -109,8 +109,8 @@ fn are_met(set: &VarSet, var: VarId, constraints: &[Constraint]) -> bool
     requires within { AllByRecursion (λ c. IsWithin (length set.now) c) constraints.now }
     ensures { result ≡ list_all (λ c. is_true_of (at set.now) var c) constraints.now }
 {
-    for constraint in constraints {
-        if !is_met(set, var, constraint) {
+    for own in constraints {
+        if !is_met(set, var, own) {
             return false;
         }
     }

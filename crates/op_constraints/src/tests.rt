@@ -1,4 +1,4 @@
-ghost use Rattle.std.specs.Prelude.{◌≡◌, ◌≤◌, length, map, IfOk};
+ghost use Rattle.std.specs.Prelude.{◌≡◌, ◌≤◌, length, IfOk};
 ghost use Rattle.std.specs.List.{AllByRecursion};
 ghost use Rattle.op_constraints.specs.Kept.{HasFewMembers};
 ghost use Rattle.op_constraints.specs.Meets.{IsClosed};
@@ -8,38 +8,63 @@ use olm_base::Memory;
 use std::alloc::Global;
 use std::test::Fail;
 
+/// A variable of a problem: a subscription, an entry, or a package or kind of which one is taken.
+#[derive(Clone, Copy)]
+enum Row<'a> {
+    Asked(&'a [u32]),
+    Needs(&'a [u32]),
+    Free,
+    Out,
+    Apart(u32),
+    One(&'a [u32]),
+}
+
 fn list(alloc: Global, numbers: &[u32]) -> Result<Many<VarId>, Memory>
-    ensures { IfOk result (λ members. length members ≡ length numbers.now) }
+    ensures { IfOk result (λ members. length members ≤ VAR_LIMIT) }
 {
+    if numbers.len() > VAR_LIMIT {
+        return Err(Memory);
+    }
     Ok(Many::from_vec(numbers.iter().map(|n| VarId(*n)).collect(alloc)?))
 }
 
-fn any(alloc: Global, numbers: &[u32]) -> Result<Constraint, Memory>
-    requires { length numbers.now ≤ VAR_LIMIT }
+fn constraint_of(alloc: Global, row: &Row<'_>) -> Result<Constraint, Memory>
     ensures { IfOk result HasFewMembers }
 {
-    Ok(Constraint::Dependency(list(alloc, numbers)?))
-}
-
-fn most(alloc: Global, most: u32, numbers: &[u32]) -> Result<Constraint, Memory>
-    requires { length numbers.now ≤ VAR_LIMIT }
-    ensures { IfOk result HasFewMembers }
-{
-    Ok(Constraint::AtMost {
-        most,
-        members: list(alloc, numbers)?,
+    Ok(match row {
+        Row::Asked(numbers) => Constraint::Dependency(list(alloc, numbers)?),
+        Row::Needs(numbers) => Constraint::Dependency(list(alloc, numbers)?),
+        Row::Free => Constraint::Dependency(list(alloc, &[])?),
+        Row::Out => Constraint::Prohibited,
+        Row::Apart(other) => Constraint::Conflict(VarId(*other)),
+        Row::One(numbers) => Constraint::AtMost {
+            most: 1,
+            members: list(alloc, numbers)?,
+        },
     })
 }
 
-/// Adds a variable with these constraints.
-fn add(problem: &mut Problem, alloc: Global, constraints: Vec<Constraint>) -> Result<(), Memory>
-    requires few { length constraints.items ≤ VAR_LIMIT }
-    requires members { AllByRecursion HasFewMembers constraints.items }
+fn constraints_of(alloc: Global, row: &Row<'_>) -> Result<Vec<Constraint>, Memory>
+    ensures few { IfOk result (λ constraints. length constraints.items ≤ VAR_LIMIT) }
+    ensures members { IfOk result (λ constraints. AllByRecursion HasFewMembers constraints.items) }
 {
-    if problem.len() < VAR_LIMIT {
-        problem.push(alloc, Many::from_vec(constraints))?;
+    let constraint = constraint_of(alloc, row)?;
+    match row {
+        Row::Asked(_) => Ok(vec![in alloc; Constraint::Mandatory, constraint]?),
+        Row::Free => Ok(vec![in alloc]?),
+        _ => Ok(vec![in alloc; constraint]?),
     }
-    Ok(())
+}
+
+fn problem_of(alloc: Global, rows: &[Row<'_>]) -> Result<Problem, Memory> {
+    let mut problem = Problem::new(alloc);
+    for row in rows {
+        let constraints = constraints_of(alloc, row)?;
+        if problem.len() < VAR_LIMIT {
+            problem.push(alloc, Many::from_vec(constraints))?;
+        }
+    }
+    Ok(problem)
 }
 
 /// Takes the numbers as far as they are offered, and says how many were and whether the walk is full.
@@ -81,200 +106,167 @@ fn set_of(alloc: Global, problem: &Problem, numbers: &[u32]) -> Result<VarSet, M
     Ok(set)
 }
 
+type Walked<'a> = (&'a [u32], (usize, bool, bool));
+
+/// The numbers of the first set or walk that goes otherwise than it is said to, if one does.
+fn otherwise<'a>(
+    alloc: Global,
+    rows: &[Row<'_>],
+    sets: &[(&'a [u32], bool)],
+    walks: &[Walked<'a>],
+) -> Result<Option<&'a [u32]>, Memory> {
+    let problem = problem_of(alloc, rows)?;
+    if !problem.closed() {
+        return Ok(Some(&[]));
+    }
+    for (numbers, met) in sets {
+        let set = set_of(alloc, &problem, numbers)?;
+        if problem.meets(&set) != *met {
+            return Ok(Some(numbers));
+        }
+    }
+    for (numbers, want) in walks {
+        if walked(alloc, &problem, numbers)? != *want {
+            return Ok(Some(numbers));
+        }
+    }
+    Ok(None)
+}
+
 /// One package of two entries, whose head needs what no catalog has.
-fn head_lacks_base(alloc: Global) -> Result<Problem, Memory> {
-    let mut problem = Problem::new(alloc);
-    add(
-        &mut problem,
-        alloc,
-        vec![in alloc; Constraint::Mandatory, any(alloc, &[1, 2])?]?,
-    )?;
-    add(&mut problem, alloc, vec![in alloc; any(alloc, &[])?]?)?;
-    add(&mut problem, alloc, vec![in alloc]?)?;
-    add(
-        &mut problem,
-        alloc,
-        vec![in alloc; most(alloc, 1, &[1, 2])?]?,
-    )?;
-    Ok(problem)
-}
-
-/// Two packages of two entries, whose heads give one kind.
-fn shared_kind(alloc: Global) -> Result<Problem, Memory> {
-    let mut problem = Problem::new(alloc);
-    add(
-        &mut problem,
-        alloc,
-        vec![in alloc; Constraint::Mandatory, any(alloc, &[2, 3])?]?,
-    )?;
-    add(
-        &mut problem,
-        alloc,
-        vec![in alloc; Constraint::Mandatory, any(alloc, &[4, 5])?]?,
-    )?;
-    for _ in 2..6 {
-        add(&mut problem, alloc, vec![in alloc]?)?;
-    }
-    for members in [[2, 3].as_slice(), &[4, 5], &[2, 4]] {
-        add(
-            &mut problem,
-            alloc,
-            vec![in alloc; most(alloc, 1, members)?]?,
-        )?;
-    }
-    Ok(problem)
-}
-
-/// Two packages that need different entries of a third.
-fn clashing_needs(alloc: Global) -> Result<Problem, Memory> {
-    let mut problem = Problem::new(alloc);
-    add(
-        &mut problem,
-        alloc,
-        vec![in alloc; Constraint::Mandatory, any(alloc, &[2])?]?,
-    )?;
-    add(
-        &mut problem,
-        alloc,
-        vec![in alloc; Constraint::Mandatory, any(alloc, &[3])?]?,
-    )?;
-    add(&mut problem, alloc, vec![in alloc; any(alloc, &[4])?]?)?;
-    add(&mut problem, alloc, vec![in alloc; any(alloc, &[5])?]?)?;
-    add(&mut problem, alloc, vec![in alloc]?)?;
-    add(&mut problem, alloc, vec![in alloc]?)?;
-    add(
-        &mut problem,
-        alloc,
-        vec![in alloc; most(alloc, 1, &[4, 5])?]?,
-    )?;
-    Ok(problem)
-}
-
 #[test]
-fn second_entry_is_taken(rt: HostRuntime) -> Result<(), Fail> {
-    let alloc = rt.alloc();
-    let problem = head_lacks_base(alloc)?;
-    assert!(rt; problem.closed());
-    for (numbers, met) in [
-        ([0u32, 2, 2].as_slice(), true),
-        (&[0, 1], false),
+fn head_that_lacks_its_base_is_passed_over(rt: HostRuntime) -> Result<(), Fail> {
+    let rows = [
+        Row::Asked(&[1, 2]),
+        Row::Needs(&[]),
+        Row::Free,
+        Row::One(&[1, 2]),
+    ];
+    let sets = [
+        ([0u32, 2].as_slice(), true),
         (&[0, 2, 3], true),
+        (&[0, 1], false),
+        (&[0, 1, 2], false),
         (&[2], false),
         (&[0], false),
-        (&[0, 1, 2], false),
-    ] {
-        let set = set_of(alloc, &problem, numbers)?;
-        assert_eq!(rt; problem.meets(&set), met, "{numbers:?}");
-    }
-    assert_eq!(rt; walked(alloc, &problem, &[0, 0])?, (1, false, false));
-    assert_eq!(rt; walked(alloc, &problem, &[1, 0])?, (1, true, true));
-    let mut walk = Walk::new(alloc, &problem)?;
-    assert!(rt; !walk.follow_first());
-    assert_eq!(rt; walk.numbers(), [0u32].as_slice());
-    walk.restart();
-    assert!(rt; walk.numbers().is_empty() && walk.next_choice().is_some());
-    assert!(rt; problem.len() == 4 && walk.set().has(VarId(0)) && !walk.set().has(VarId(1)));
+    ];
+    let walks = [
+        ([0u32, 0].as_slice(), (1, false, false)),
+        (&[1, 0], (1, true, true)),
+    ];
+    assert_eq!(rt; otherwise(rt.alloc(), &rows, &sets, &walks)?, None);
     Ok(())
 }
 
+/// Two packages of two entries, whose heads give one kind.
 #[test]
 fn second_head_gives_way(rt: HostRuntime) -> Result<(), Fail> {
-    let alloc = rt.alloc();
-    let problem = shared_kind(alloc)?;
-    assert_eq!(rt; problem.len(), 9);
-    assert!(rt; problem.closed());
-    for (numbers, want) in [
+    let rows = [
+        Row::Asked(&[2, 3]),
+        Row::Asked(&[4, 5]),
+        Row::Free,
+        Row::Free,
+        Row::Free,
+        Row::Free,
+        Row::One(&[2, 3]),
+        Row::One(&[4, 5]),
+        Row::One(&[2, 4]),
+    ];
+    let sets = [([0u32, 1, 2, 5].as_slice(), true), (&[0, 1, 2, 4], false)];
+    let walks = [
         ([0u32, 0].as_slice(), (2, true, false)),
         (&[0, 1, 0], (2, true, true)),
         (&[1, 0], (2, true, true)),
         (&[0, 2], (1, false, false)),
         (&[], (0, false, false)),
-    ] {
-        assert_eq!(rt; walked(alloc, &problem, numbers)?, want, "{numbers:?}");
-    }
+    ];
+    assert_eq!(rt; otherwise(rt.alloc(), &rows, &sets, &walks)?, None);
     Ok(())
 }
 
+/// Two packages that need different entries of a third.
 #[test]
 fn no_set_meets_clashing_needs(rt: HostRuntime) -> Result<(), Fail> {
-    let alloc = rt.alloc();
-    let problem = clashing_needs(alloc)?;
-    assert!(rt; problem.closed());
-    for numbers in [
-        [0u32, 1, 2, 3, 4].as_slice(),
-        &[0, 1, 2, 3, 5],
-        &[0, 1, 2, 3, 4, 5],
-        &[0, 1, 2, 3],
-        &[0, 2, 4],
-        &[],
-    ] {
-        let set = set_of(alloc, &problem, numbers)?;
-        assert!(rt; !problem.meets(&set), "{numbers:?}");
-    }
-    assert_eq!(rt;
-        walked(alloc, &problem, &[0, 0, 0, 0, 0])?,
-        (4, true, false)
-    );
+    let rows = [
+        Row::Asked(&[2]),
+        Row::Asked(&[3]),
+        Row::Needs(&[4]),
+        Row::Needs(&[5]),
+        Row::Free,
+        Row::Free,
+        Row::One(&[4, 5]),
+    ];
+    let sets = [
+        ([0u32, 1, 2, 3, 4].as_slice(), false),
+        (&[0, 1, 2, 3, 5], false),
+        (&[0, 1, 2, 3, 4, 5], false),
+        (&[0, 1, 2, 3], false),
+        (&[], false),
+    ];
+    let walks = [([0u32, 0, 0, 0, 0].as_slice(), (4, true, false))];
+    assert_eq!(rt; otherwise(rt.alloc(), &rows, &sets, &walks)?, None);
     Ok(())
 }
 
+/// A conflict with itself, a list with its own variable, an empty one, and a member that stands twice.
 #[test]
 fn edges_of_constraints(rt: HostRuntime) -> Result<(), Fail> {
-    let alloc = rt.alloc();
-    let mut problem = Problem::new(alloc);
-    add(
-        &mut problem,
-        alloc,
-        vec![in alloc; Constraint::Conflict(VarId(0))]?,
-    )?;
-    add(&mut problem, alloc, vec![in alloc; any(alloc, &[1])?]?)?;
-    add(&mut problem, alloc, vec![in alloc; any(alloc, &[])?]?)?;
-    assert!(rt; problem.closed());
-    add(
-        &mut problem,
-        alloc,
-        vec![in alloc; most(alloc, 1, &[4, 4])?]?,
-    )?;
-    assert!(rt; !problem.closed());
-    add(&mut problem, alloc, vec![in alloc]?)?;
-    add(&mut problem, alloc, vec![in alloc; Constraint::Prohibited]?)?;
-    assert!(rt; problem.closed());
-    assert!(rt; problem.find(VarId(3), 0).is_some() && problem.find(VarId(3), 1).is_none());
-    for (numbers, met) in [
+    let rows = [
+        Row::Apart(0),
+        Row::Needs(&[1]),
+        Row::Needs(&[]),
+        Row::One(&[4, 4]),
+        Row::Free,
+        Row::Out,
+    ];
+    let sets = [
         ([].as_slice(), true),
         (&[0u32], false),
         (&[1], true),
         (&[2], false),
         (&[3, 4], true),
         (&[5], false),
-    ] {
-        let set = set_of(alloc, &problem, numbers)?;
-        assert_eq!(rt; problem.meets(&set), met, "{numbers:?}");
-    }
+    ];
+    let walks = [([0u32].as_slice(), (0, true, true))];
+    assert_eq!(rt; otherwise(rt.alloc(), &rows, &sets, &walks)?, None);
+    assert!(rt; !problem_of(rt.alloc(), &[Row::Apart(1)])?.closed());
+    Ok(())
+}
+
+/// The list of a picked variable is chosen from after those that stood before it, and is passed where it holds something chosen.
+#[test]
+fn lists_of_picked_come_last(rt: HostRuntime) -> Result<(), Fail> {
+    let rows = [
+        Row::Asked(&[2]),
+        Row::Asked(&[3, 4]),
+        Row::Needs(&[5, 3]),
+        Row::Free,
+        Row::Free,
+        Row::Free,
+    ];
+    let walks = [
+        ([0u32, 0, 0].as_slice(), (2, true, true)),
+        (&[0, 1], (2, false, false)),
+        (&[0, 1, 1, 0], (3, true, true)),
+    ];
+    assert_eq!(rt; otherwise(rt.alloc(), &rows, &[], &walks)?, None);
     Ok(())
 }
 
 #[test]
-fn lists_of_picked_come_last(rt: HostRuntime) -> Result<(), Fail> {
-    let alloc = rt.alloc();
-    let mut problem = Problem::new(alloc);
-    let first = vec![in alloc;
-        Constraint::Mandatory,
-        any(alloc, &[1])?,
-        any(alloc, &[2, 4])?,
-    ]?;
-    add(&mut problem, alloc, first)?;
-    add(&mut problem, alloc, vec![in alloc; any(alloc, &[3])?]?)?;
-    for _ in 2..5 {
-        add(&mut problem, alloc, vec![in alloc]?)?;
-    }
-    assert!(rt; problem.closed());
-    for (numbers, want) in [
-        ([0u32, 2].as_slice(), (1, false, false)),
-        (&[0, 1, 1], (2, false, false)),
-        (&[0, 1, 0], (3, true, true)),
-    ] {
-        assert_eq!(rt; walked(alloc, &problem, numbers)?, want, "{numbers:?}");
-    }
+fn first_walk_and_restart(rt: HostRuntime) -> Result<(), Fail> {
+    let problem = problem_of(
+        rt.alloc(),
+        &[Row::Asked(&[1, 2]), Row::Needs(&[]), Row::Free],
+    )?;
+    assert!(rt; problem.closed() && problem.len() == 3);
+    assert_eq!(rt; problem.constraints(VarId(0)).len(), 2);
+    assert!(rt; problem.find(VarId(1), 0).is_some() && problem.find(VarId(1), 1).is_none());
+    let mut walk = Walk::new(rt.alloc(), &problem)?;
+    assert!(rt; !walk.follow_first());
+    assert_eq!(rt; walk.numbers(), [0u32].as_slice());
+    walk.restart();
+    assert!(rt; walk.numbers().is_empty() && walk.next_choice().is_some());
+    assert!(rt; walk.set().has(VarId(0)) && !walk.set().has(VarId(1)));
     Ok(())
 }

@@ -19,8 +19,12 @@ fn next_list<'p>(
 ) -> Option<(usize, &'p [VarId])>
     requires { AllByRecursion (λ c. IsWithin (length set.now) c) constraints.now }
     ensures none { IfNone result (passed (at set.now) (dependencies (drop place constraints.now)) ≡ []) }
-    ensures some { IfSome result (λ r. passed (at set.now) (dependencies (drop place constraints.now)) ≡ r.1.now ∷ dependencies (drop (suc r.0) constraints.now)) }
-    ensures at { IfSome result (λ r. passed (at set.now) (dependencies (drop r.0 constraints.now)) ≡ r.1.now ∷ dependencies (drop (suc r.0) constraints.now)) }
+    ensures some { IfSome result (λ r.
+        passed (at set.now) (dependencies (drop place constraints.now))
+        ≡ r.1.now ∷ dependencies (drop (suc r.0) constraints.now)) }
+    ensures at { IfSome result (λ r.
+        passed (at set.now) (dependencies (drop r.0 constraints.now))
+        ≡ r.1.now ∷ dependencies (drop (suc r.0) constraints.now)) }
     ensures open { IfSome result (λ r. list_any (at set.now) r.1.now ≡ false) }
 {
     let mut i = place;
@@ -99,7 +103,10 @@ impl<'p> Model for Walk<'p> {
 
     ghost view = { λ w. record { problem = w.problem.now; numbers = w.numbers.items; chosen = w.chosen.items } };
 
-    ghost invariant = { λ w. Stands w.problem.now w.set w.chosen.items w.numbers.items × Looks w.problem.now w.chosen.items w.index w.place × HasRoom w.problem.now (vec_capacity w.chosen) (vec_capacity w.numbers) };
+    ghost invariant = { λ w.
+        Stands w.problem.now w.set w.chosen.items w.numbers.items
+        × Looks w.problem.now w.chosen.items w.index w.place
+        × HasRoom w.problem.now (vec_capacity w.chosen) (vec_capacity w.numbers) };
 }
 
 impl<'p> Walk<'p> {
@@ -125,7 +132,9 @@ impl<'p> Walk<'p> {
     pub fn next_choice(&mut self) -> Option<&'p [VarId]>
         ensures same { self.new ≡ self.old }
         ensures none { IfNone result (waiting self.old.problem self.old.chosen ≡ []) }
-        ensures some { IfSome result (λ members. (rest : List (List ℕ)) × (waiting self.old.problem self.old.chosen ≡ members.now ∷ rest)) }
+        ensures some { IfSome result (λ members.
+            (rest : List (List ℕ))
+            × (waiting self.old.problem self.old.chosen ≡ members.now ∷ rest)) }
         ensures list { IfSome result (λ members. members.now ≡ choice self.old.problem self.old.chosen) }
         ensures walked { walk self.new.problem self.new.numbers ≡ Some self.new.chosen }
     {

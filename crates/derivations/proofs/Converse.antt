@@ -1,6 +1,6 @@
 -- A constraint is true of a set of which its clauses hold, where an AtMost names each member once.
-use Rattle.std.proofs.Common.{◌≡◌, ◌↔◌, ℕ, zero, suc, ◌+◌, ◌≤◌, ◌<◌, ◌==◌, nat_le, Bool, true, false, not, cond, ◌&&◌, ◌||◌, List, [], ◌∷◌, length, map, take, refl, sym, ap, ◌∙◌, subst, arith, inl, inr, Option, Some, None}
-use Rattle.std.specs.List.{list_any, list_all, filter, count_by}
+use Rattle.std.proofs.Common.{◌≡◌, ◌↔◌, ℕ, zero, suc, ◌+◌, ◌≤◌, ◌<◌, ◌==◌, nat_le, Bool, true, false, not, cond, ◌&&◌, ◌||◌, List, [], ◌∷◌, length, map, take, refl, sym, ap, ◌∙◌, subst, arith, inl, inr, Option, Some, None, slice_get}
+use Rattle.std.specs.List.{list_any, list_all, filter, count_by, AllByRecursion}
 use Rattle.std.proofs.lemmas.Bool.{cases_Bool, or_cases, or_left, or_right, or_parts, or_from, and_parts, and_from, both_ways, not-true, not_from_true, not_from_false, true_from_ne_false, leb-false, eq-eqb, cond-true}
 use Rattle.std.proofs.lemmas.List.{length-take-le}
 use Rattle.std.proofs.lemmas.List.Sums.{length-filter}
@@ -9,8 +9,9 @@ use Rattle.op_constraints.specs.declared.Constraint.{Constraint}
 use Rattle.op_constraints.specs.declared.Constraint.TheVariants.{Mandatory, Prohibited, Dependency, Conflict, AtMost}
 use Rattle.op_constraints.specs.Meets.{constraint_at, is_true_of, Meets}
 use Rattle.op_constraints.specs.Walks.{is_among}
-use Rattle.derivations.specs.Clauses.{positive, negative, clause_holds, is_distinct, is_too_many, given_clause}
-use Rattle.derivations.specs.Laws.{HasDistinctMembers, GivenHold}
+use Rattle.derivations.specs.Clauses.{positive, negative, clause_holds, is_too_many, given_clause}
+use Rattle.op_constraints.specs.Kept.{is_distinct, HasDistinctMembers}
+use Rattle.derivations.specs.Laws.{GivenHold}
 use Rattle.derivations.proofs.Sound.{positive-any, given_holds}
 
 among-filter : (p : ℕ → Bool) (vs : List ℕ) (v : ℕ) → is_among vs v ≡ false → is_among (filter p vs) v ≡ false
@@ -108,9 +109,18 @@ true_by_clauses set v (AtMost most members) d f =
     let given : given_clause v (AtMost most members) named ≡ Some (map negative named) = cond-true (is_too_many most members named) (Some (map negative named)) None (chosen_named set most members d more) in
     both_ways (clause_holds set (map negative named)) (none_out set named (all-take set (most + 1) (filter set members) (filter_all set members))) (f named (map negative named) given))
 
+at_place : (cs : List Constraint) (place : ℕ) (c : Constraint) → AllByRecursion HasDistinctMembers cs → slice_get cs place ≡ Some c → HasDistinctMembers c
+at_place [] place c a e = absurd (let bad : None ≡ Some c = e in cc)
+at_place (d ∷ ds) zero c a e = let same : d ≡ c = cc in subst (λ (k : Constraint). HasDistinctMembers k) same a.0
+at_place (d ∷ ds) (suc place) c a e = at_place ds place c a.1 e
+
+distinct_at : (problem : List (List Constraint)) (v place : ℕ) (c : Constraint) → AllByRecursion (λ cs. AllByRecursion HasDistinctMembers cs) problem → constraint_at problem v place ≡ Some c → HasDistinctMembers c
+distinct_at [] v place c a e = absurd (let bad : None ≡ Some c = e in cc)
+distinct_at (cs ∷ css) zero place c a e = at_place cs place c a.0 e
+distinct_at (cs ∷ css) (suc v) place c a e = distinct_at css v place c a.1 e
+
 -- a set meets the problem exactly where every given clause holds of it
-pub clauses_are_problem : (problem : List (List Constraint)) (set : ℕ → Bool) → ((v place : ℕ) (c : Constraint) → constraint_at problem v place ≡ Some c → HasDistinctMembers c) → Meets problem set ↔ GivenHold problem set
-clauses_are_problem problem set d = (
-  λ m v place c named clause at given. given_holds set v c named clause (m v place c at) given,
-  λ g v place c at. true_by_clauses set v c (d v place c at) (λ named clause given. g v place c named clause at given),
-)
+pub clauses_are_problem : (problem : List (List Constraint)) (set : ℕ → Bool) → AllByRecursion (λ cs. AllByRecursion HasDistinctMembers cs) problem → Meets problem set ↔ GivenHold problem set
+clauses_are_problem problem set d =
+    (λ m v place c named clause at given. given_holds set v c named clause (m v place c at) given,
+     λ g v place c at. true_by_clauses set v c (distinct_at problem v place c d at) (λ named clause given. g v place c named clause at given))

@@ -16,7 +16,8 @@ use Rattle.derivations.specs.declared.Lemma.{Lemma}
 use Rattle.derivations.specs.declared.LogCause.{LogCause}
 use Rattle.derivations.specs.declared.LogCause.TheVariants.{BadClause, NoSuchHint, BadGiven, HintNotUnit, NoConflict}
 use Rattle.derivations.specs.declared.LogFault.{LogFault}
-use Rattle.derivations.specs.Clauses.{positive, negative, denial, is_same, is_in, lit_holds, clause_holds, is_distinct, is_too_many, given_clause}
+use Rattle.derivations.specs.Clauses.{positive, negative, denial, is_same, is_in, lit_holds, clause_holds, is_too_many, given_clause}
+use Rattle.op_constraints.specs.Kept.{is_distinct}
 use Rattle.derivations.specs.Follows.{clause_of, left, sole, forced, after_forced, unit_fault, is_nothing, last_fault, hints_fault, all_hints_fault, is_clause, fault_of, log_fault, clauses, Follows, LogFollows}
 use Rattle.op_constraints.proofs.WalkLaws.{under}
 use Rattle.derivations.specs.Laws.{AllHold}

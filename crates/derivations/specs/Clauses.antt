@@ -6,6 +6,7 @@ use Rattle.op_constraints.specs.declared.Lit.{Lit}
 use Rattle.op_constraints.specs.declared.Constraint.{Constraint}
 use Rattle.op_constraints.specs.declared.Constraint.TheVariants.{Mandatory, Prohibited, Dependency, Conflict, AtMost}
 use Rattle.op_constraints.specs.Walks.{is_among}
+use Rattle.op_constraints.specs.Kept.{is_distinct}
 
 -- the literal that the variable is in
 abbrev pub positive : ℕ → Lit
@@ -34,11 +35,6 @@ lit_holds set l = cond l.positive (set l.var) (not (set l.var))
 -- one of the literals is true of the set
 abbrev pub clause_holds : (ℕ → Bool) → List Lit → Bool
 clause_holds set lits = list_any (λ l. lit_holds set l) lits
-
--- each of these once
-abbrev pub is_distinct : List ℕ → Bool
-is_distinct [] = true
-is_distinct (v ∷ vs) = not (is_among vs v) && is_distinct vs
 
 -- one more than most of the members, each once
 abbrev pub is_too_many : ℕ → List ℕ → List ℕ → Bool

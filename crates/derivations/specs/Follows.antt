@@ -11,7 +11,8 @@ use Rattle.derivations.specs.declared.Lemma.{Lemma}
 use Rattle.derivations.specs.declared.LogCause.{LogCause}
 use Rattle.derivations.specs.declared.LogCause.TheVariants.{BadClause, NoSuchHint, BadGiven, HintNotUnit, NoConflict}
 use Rattle.derivations.specs.declared.LogFault.{LogFault}
-use Rattle.derivations.specs.Clauses.{denial, is_same, is_in, is_distinct, given_clause}
+use Rattle.derivations.specs.Clauses.{denial, is_same, is_in, given_clause}
+use Rattle.op_constraints.specs.Kept.{is_distinct}
 
 -- the clause that a hint names, of the problem or among the earlier ones
 abbrev pub clause_of : List (List Constraint) → List (List Lit) → Hint → Result (List Lit) LogCause

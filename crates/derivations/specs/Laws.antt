@@ -3,7 +3,6 @@ use Rattle.std.specs.Prelude.{◌≡◌, ◌↔◌, ℕ, Bool, true, List, ◌++
 use Rattle.std.specs.List.{AllByRecursion}
 use Rattle.op_constraints.specs.declared.Lit.{Lit}
 use Rattle.op_constraints.specs.declared.Constraint.{Constraint}
-use Rattle.op_constraints.specs.declared.Constraint.TheVariants.{AtMost}
 use Rattle.op_constraints.specs.Meets.{constraint_at, is_true_of, Meets}
 use Rattle.derivations.specs.declared.Hint.{Hint}
 use Rattle.derivations.specs.declared.Lemma.{Lemma}
@@ -12,7 +11,8 @@ use Rattle.derivations.specs.declared.Finding.{Finding}
 use Rattle.derivations.specs.declared.Finding.TheVariants.{Chosen, Refused, Undecided}
 use Rattle.derivations.specs.Accepted.{IsAccepted}
 use Rattle.op_constraints.specs.Walks.{IsBest}
-use Rattle.derivations.specs.Clauses.{is_distinct, given_clause, clause_holds}
+use Rattle.derivations.specs.Clauses.{given_clause, clause_holds}
+use Rattle.op_constraints.specs.Kept.{HasDistinctMembers}
 use Rattle.derivations.specs.Follows.{clauses, Follows, LogFollows}
 
 -- each clause holds of the set
@@ -27,11 +27,6 @@ GivenClausesHold =
     → given_clause v c named ≡ Some clause
     → clause_holds set clause ≡ true
 
--- an AtMost lists each member once
-abbrev pub HasDistinctMembers : Constraint → Type 0
-HasDistinctMembers (AtMost most members) = is_distinct members ≡ true
-HasDistinctMembers _ = Unit {0}
-
 -- each clause that the problem gives holds of the set
 abbrev pub GivenHold : List (List Constraint) → (ℕ → Bool) → Type 0
 GivenHold problem set =
@@ -40,11 +35,11 @@ GivenHold problem set =
     → given_clause v c named ≡ Some clause
     → clause_holds set clause ≡ true
 
--- a set meets a problem exactly where every given clause holds of it
+-- a set meets a problem exactly where every given clause holds of it. Each problem has each member of AtMost once
 abbrev pub ClausesAreTheProblem : Type 0
 ClausesAreTheProblem =
     (problem : List (List Constraint)) (set : ℕ → Bool)
-    → ((v place : ℕ) (c : Constraint) → constraint_at problem v place ≡ Some c → HasDistinctMembers c)
+    → AllByRecursion (λ cs. AllByRecursion HasDistinctMembers cs) problem
     → Meets problem set ↔ GivenHold problem set
 
 -- a clause that follows holds of every set that meets the problem and of which the lemmas hold

@@ -16,6 +16,7 @@ pub use laws::{
 };
 use olm_base::Many;
 use op_constraints::{Lit, VarId};
+use thiserror::Error;
 pub use sink::ProofSink;
 
 /// Names a clause that is there already.
@@ -53,23 +54,29 @@ pub struct Log {
 }
 
 /// Why a clause doesn't follow by its hints. `BadClause` comes first; then the hints are taken in order.
-#[derive(Clone, Copy, Debug, PartialEq, Eq)]
+#[derive(Clone, Copy, Debug, PartialEq, Eq, Error)]
 pub enum LogCause {
     /// A variable of the clause is repeated or unknown.
+    #[error("a variable of the clause is repeated or unknown")]
     BadClause,
     /// The hint names a lemma that isn't earlier.
+    #[error("a hint names a lemma that is not earlier")]
     NoSuchHint,
     /// There is no such constraint; or the members of an `AtMost` are repeated, not in its list, or not one more than
     /// it allows; or members are given for another kind.
+    #[error("a hint names no clause of the problem")]
     BadGiven,
     /// A hint before the last doesn't force one literal.
+    #[error("a hint before the last forces no literal")]
     HintNotUnit,
     /// The last hint isn't false, or there is no hint.
+    #[error("the last hint is not false")]
     NoConflict,
 }
 
 /// The first lemma of a log that doesn't follow, by its number from 0.
-#[derive(Clone, Copy, Debug, PartialEq, Eq)]
+#[derive(Clone, Copy, Debug, PartialEq, Eq, Error)]
+#[error("lemma {number}: {cause}")]
 pub struct LogFault {
     pub number: u32,
     pub cause: LogCause,

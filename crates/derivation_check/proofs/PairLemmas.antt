@@ -27,10 +27,17 @@ is_the_next : (k : ℕ) (pair : ℕ × ℕ) (wanted given : List (ℕ × ℕ)) �
 is_the_next k pair wanted [] e = absurd (let bad : false ≡ true = e in cc)
 is_the_next k pair wanted (next ∷ given) e = cond-true (is_pair pair next) (pairs_fault (k + 1) wanted given) (Some (Missing pair.0 pair.1)) e
 
+drop_suc : (k : ℕ) (pairs : List (ℕ × ℕ)) → drop 1 (drop k pairs) ≡ drop (suc k) pairs
+drop_suc zero pairs = refl
+drop_suc (suc k) [] = refl
+drop_suc (suc k) (p ∷ ps) = drop_suc k ps
+
 drop_one : (k : ℕ) (pairs : List (ℕ × ℕ)) → drop 1 (drop k pairs) ≡ drop (k + 1) pairs
-drop_one zero pairs = refl
-drop_one (suc k) [] = refl
-drop_one (suc k) (p ∷ ps) = drop_one k ps
+drop_one k pairs = drop_suc k pairs ∙ (let e : suc k ≡ k + 1 = omega arith in ap (λ n. drop n pairs) e)
+
+-- the next pair is that of the step at the place
+pub next_is : (steps : List (ℕ × ℕ × Refutation)) (k : ℕ) (x : ℕ × ℕ × Refutation) (pair : ℕ × ℕ) → k < length steps → x ≡ get_or steps k x → is_pair pair (pair_of x) ≡ is_next (drop k (map pair_of steps)) pair
+next_is steps k x pair h e = ap (λ given. is_next given pair) (sym (pairs_at steps k x h e))
 
 -- the candidate that isn't next is missing
 pub missing_here : (choice candidate m k : ℕ) (pairs rest : List (ℕ × ℕ)) → 0 < m → is_next (drop k pairs) (choice, candidate) ≡ false → pairs_fault k (map (λ j. (choice, j)) (range_with_len candidate m) ++ rest) (drop k pairs) ≡ Some (Missing choice candidate)
@@ -52,3 +59,9 @@ over position (suc k) (s ∷ ss) h = over position k ss (omega arith)
 -- what is given beyond the wanted pairs is left over
 pub left_over : (steps : List (ℕ × ℕ × Refutation)) (k : ℕ) → k < length steps → pairs_fault k [] (drop k (map pair_of steps)) ≡ Some (Extra k)
 left_over steps k h = over k k steps h
+
+pub drop_end : (xs : List ℕ) (k : ℕ) → length xs ≤ k → drop k xs ≡ []
+drop_end [] zero h = refl
+drop_end [] (suc k) h = refl
+drop_end (x ∷ xs) zero h = absurd (omega arith)
+drop_end (x ∷ xs) (suc k) h = drop_end xs k (omega arith)

@@ -3,7 +3,7 @@ ghost use Rattle.std.specs.Prelude.{◌≡◌, ℕ, ◌<◌, ◌≤◌, ◌+◌,
 ghost use Rattle.std.specs.Bool.{OnTrue};
 ghost use Rattle.std.specs.List.{range_with_len};
 ghost use Rattle.derivations.specs.Accepted.{pairs_from};
-ghost use Rattle.derivation_check.specs.Faults.{pair_of, is_next, pairs_fault};
+ghost use Rattle.derivation_check.specs.Faults.{pair_of, is_pair, is_next, pairs_fault};
 
 use crate::CertFault;
 use derivations::Refutation;
@@ -30,20 +30,21 @@ fn missing_at(
 }
 
 /// Whether the step at that place is there, and of that choice and candidate.
-fn is_next_at(
-    steps: &[(u32, u32, Refutation)],
-    at: usize,
-    choice: u32,
-    candidate: u32,
-) -> bool
+fn is_next_at(steps: &[(u32, u32, Refutation)], at: usize, choice: u32, candidate: u32) -> bool
     ensures next { result ≡ is_next (drop at (map pair_of steps.now)) (choice, candidate) }
     ensures within { OnTrue result (at < length steps.now) }
 {
     if at < steps.len() {
-        let step = &steps[at];
-        return choice == step.0 && candidate == step.1;
+        return is_step(&steps[at], choice, candidate);
     }
     false
+}
+
+/// Whether the step is of that choice and candidate.
+fn is_step(step: &(u32, u32, Refutation), choice: u32, candidate: u32) -> bool
+    ensures { result ≡ is_pair (choice, candidate) (pair_of step.now) }
+{
+    choice == step.0 && candidate == step.1
 }
 
 /// The first refutation that is missing, or else the first that is left over.

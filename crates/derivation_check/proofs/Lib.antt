@@ -5,4 +5,5 @@ pub mod MemberLemmas
 pub mod HintLemmas
 pub mod LogSteps
 pub mod PairLemmas
+pub mod WalkingLemmas
 pub mod AcceptedLemmas

@@ -4,6 +4,8 @@
 //! time linear in its literals, its hints and the clauses that they name, beside walks over the problem.
 #![tactic(auto)]
 
+mod checker;
+mod denials;
 mod hints;
 mod laws;
 mod marks;
@@ -12,6 +14,7 @@ mod met;
 mod pairs;
 mod scan;
 mod steps;
+mod walking;
 
 pub use derivations::{LogCause, LogFault};
 pub use laws::no_fault_is_accepted;

@@ -5,5 +5,7 @@ pub mod MemberLemmas
 pub mod HintLemmas
 pub mod LogSteps
 pub mod PairLemmas
+pub mod AnswerLemmas
+pub mod RefusedLemmas
 pub mod WalkingLemmas
 pub mod AcceptedLemmas

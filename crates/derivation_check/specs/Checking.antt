@@ -10,8 +10,8 @@ pub record Checking : Type 0 where
   pub longest : ℕ
 
 -- there is a mark of each kind for each variable, and the walk is one of the problem
-pub record IsReady (problem : List (List Constraint)) (listed marks : List (Option Bool)) (walk : Walked) : Type 0 where
+pub record IsReady (problem : List (List Constraint)) (members marks : List (Option Bool)) (walk : Walked) : Type 0 where
   pub closed : IsClosed problem
-  pub listed : length listed ≡ length problem
+  pub listed : length members ≡ length problem
   pub marked : length marks ≡ length problem
   pub walks : walk.problem ≡ problem

@@ -16,6 +16,7 @@ mod scan;
 mod steps;
 mod walking;
 
+pub use checker::Checker;
 pub use derivations::{LogCause, LogFault};
 pub use laws::no_fault_is_accepted;
 use thiserror::Error;

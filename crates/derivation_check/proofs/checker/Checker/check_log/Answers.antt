@@ -8,6 +8,6 @@ use Rattle.derivation_check.proofs.checker.Checker.check_log.Goals as goal
 pub returns-clause-holds : goal.returns-clause-holds
 returns-clause-holds c =
     log_held c.args.self.now.problem c.args.log.now.lemmas c.log_answer.result
-      (c.log_answer.ensures.answer
-      ∙ (ap (λ (v : Checking). unless {T = Unit {0}} (log_fault v.problem [] c.as_slice.result.now) tt) c.self.view_is
-      ∙ ap (λ lemmas. unless {T = Unit {0}} (log_fault c.args.self.now.problem [] lemmas) tt) c.as_slice.ensures))
+    (c.log_answer.ensures.answer
+    ∙ (ap (λ (v : Checking). unless {T = Unit {0}} (log_fault v.problem [] c.as_slice.result.now) tt) c.self.view_is
+    ∙ ap (λ lemmas. unless {T = Unit {0}} (log_fault c.args.self.now.problem [] lemmas) tt) c.as_slice.ensures))

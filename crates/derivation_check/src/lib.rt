@@ -21,7 +21,6 @@ pub use derivations::{LogCause, LogFault};
 pub use laws::no_fault_is_accepted;
 use thiserror::Error;
 
-
 /// The first fault of a certificate. The variants are tested in this order; `Denies` and `Step` name the first
 /// refutation of which they hold.
 #[derive(Clone, Copy, Debug, PartialEq, Eq, Error)]

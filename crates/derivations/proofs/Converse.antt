@@ -121,6 +121,7 @@ distinct_at (cs ∷ css) (suc v) place c a e = distinct_at css v place c a.1 e
 
 -- a set meets the problem exactly where every given clause holds of it
 pub clauses_are_problem : (problem : List (List Constraint)) (set : ℕ → Bool) → AllByRecursion (λ cs. AllByRecursion HasDistinctMembers cs) problem → Meets problem set ↔ GivenHold problem set
-clauses_are_problem problem set d =
-    (λ m v place c named clause at given. given_holds set v c named clause (m v place c at) given,
-     λ g v place c at. true_by_clauses set v c (distinct_at problem v place c d at) (λ named clause given. g v place c named clause at given))
+clauses_are_problem problem set d = (
+  λ m v place c named clause at given. given_holds set v c named clause (m v place c at) given,
+  λ g v place c at. true_by_clauses set v c (distinct_at problem v place c d at) (λ named clause given. g v place c named clause at given),
+)

@@ -9,6 +9,7 @@
 
 mod laws;
 mod sink;
+mod text;
 
 pub use laws::{
     accepted_is_right, clauses_are_the_problem, following_holds, given_clauses_hold, log_holds,
@@ -16,8 +17,9 @@ pub use laws::{
 };
 use olm_base::Many;
 use op_constraints::{Lit, VarId};
-use thiserror::Error;
 pub use sink::ProofSink;
+pub use text::write_certificate;
+use thiserror::Error;
 
 /// Names a clause that is there already.
 #[derive(Debug, Drop)]

@@ -9,6 +9,8 @@
 
 mod laws;
 mod sink;
+#[cfg(test)]
+mod tests;
 mod text;
 
 pub use laws::{

@@ -1,0 +1,11 @@
+pub mod MarkLemmas
+pub mod ScanLemmas
+pub mod Denied
+pub mod MemberLemmas
+pub mod HintLemmas
+pub mod LogSteps
+pub mod PairLemmas
+pub mod AnswerLemmas
+pub mod RefusedLemmas
+pub mod WalkingLemmas
+pub mod AcceptedLemmas

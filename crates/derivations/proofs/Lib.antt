@@ -1,0 +1,4 @@
+pub mod Sound
+pub mod Converse
+pub mod Best
+pub mod Grows

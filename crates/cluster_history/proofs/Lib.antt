@@ -1,0 +1,4 @@
+pub mod Seeing
+pub mod State
+pub mod Sums
+pub mod Telling

@@ -1,0 +1,14 @@
+pub mod Allowing
+pub mod Begins
+pub mod Catalogs
+pub mod Counts
+pub mod Efforts
+pub mod Ends
+pub mod Landing
+pub mod Law
+pub mod Later
+pub mod Moments
+pub mod Moves
+pub mod Older
+pub mod Slots
+pub mod Steps

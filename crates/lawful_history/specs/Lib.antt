@@ -1,0 +1,4 @@
+pub mod Counting
+pub mod Installing
+pub mod Lawful
+pub mod Sound

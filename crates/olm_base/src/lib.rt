@@ -6,6 +6,7 @@
 #![tactic(auto)]
 
 mod bytes;
+mod fields;
 mod gvk;
 mod many;
 mod memory;
@@ -13,6 +14,7 @@ mod name;
 mod text;
 
 pub use bytes::Bytes;
+pub use fields::{FieldKind, list_field, name_field, opt_text, text_field};
 pub use gvk::Gvk;
 pub use many::Many;
 pub use memory::Memory;
@@ -22,5 +24,7 @@ pub use name::{
 };
 pub use text::Text;
 
+#[cfg(test)]
+mod field_tests;
 #[cfg(test)]
 mod tests;

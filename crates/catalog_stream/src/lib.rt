@@ -6,3 +6,6 @@ mod scan;
 
 pub use blobs::{Blob, Blobs, StreamFault, read_blobs};
 pub use scan::extent_law;
+
+#[cfg(test)]
+mod tests;

@@ -1,4 +1,4 @@
-use Rattle.std.proofs.Common.{subst, sym}
+use Rattle.std.proofs.Common.{subst}
 use Rattle.catalog_stream.specs.Depth.{extent, IsExtent}
 use Rattle.catalog_stream.proofs.Extents.{extent_is, extents_agree}
 use Rattle.catalog_stream.proofs.scan.extent_law.Goals as goal

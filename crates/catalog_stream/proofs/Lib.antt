@@ -1,0 +1,4 @@
+pub mod Objects
+pub mod Scanning
+pub mod Extents
+pub mod Turns

@@ -1,0 +1,11 @@
+//! The blobs of a catalog stream: JSON objects that follow one another in a text, with blanks between them.
+#![tactic(auto)]
+
+mod blobs;
+mod scan;
+
+pub use blobs::{Blob, Blobs, StreamFault, read_blobs};
+pub use scan::extent_law;
+
+#[cfg(test)]
+mod tests;

@@ -4,6 +4,7 @@ use Rattle.std.specs.Option.{option_and_then, option_map_or}
 use Rattle.std.specs.List.{list_all, take_while}
 use Rattle.serde_json.specs.Data.{Data}
 use Rattle.serde_json.specs.Find.{get}
+use Rattle.catalog_stream.specs.Stream.{BlobView}
 use Rattle.olmctl.specs.FieldReading.{count_fields, text_at, name_at, has_text, sole_at}
 use Rattle.olmctl.specs.declared.first_form.Listed.{Listed}
 use Rattle.olmctl.specs.declared.first_form.Form.{Form}
@@ -79,7 +80,7 @@ listed_by package_blob channel bundle =
     (version_of bundle)) (name_at (codes "name") bundle)) (name_at (codes "name") channel)) (name_at (codes "name") package_blob)
 
 -- the form of a list of blobs, where they are of the first form
-abbrev pub form_of : List Data → Option Form
+abbrev pub form_of : List BlobView → Option Form
 form_of [] = Some Empty
-form_of (package_blob ∷ channel ∷ bundle ∷ []) = option_map One (listed_by package_blob channel bundle)
+form_of (package_blob ∷ channel ∷ bundle ∷ []) = option_map One (listed_by package_blob.value channel.value bundle.value)
 form_of _ = None

@@ -4,10 +4,12 @@ ghost use Rattle.std.specs.List.{list_all};
 ghost use Rattle.std.specs.Option.{option_and_then, option_map_or};
 ghost use Rattle.serde_json.specs.Find.{get};
 ghost use Rattle.serde_json.specs.View.{view};
+ghost use Rattle.catalog_stream.specs.Stream.{blob_view};
 ghost use Rattle.olmctl.specs.FieldReading.{sole_at, text_at};
 ghost use Rattle.olmctl.specs.FirstForm as spec;
 
 use crate::fields::{count_fields, has_text, name_at, sole_at, text_at};
+use catalog_stream::Blob;
 use olm_base::{Memory, Name, Text};
 use serde_json::Value;
 use std::alloc::Global;
@@ -228,17 +230,19 @@ fn listed_by(
 }
 
 /// The form of a list of blobs; none where they are not of the first form.
-pub fn form_of(alloc: Global, blobs: &[Value]) -> Result<Option<Form>, Memory>
-    ensures { IfOk result (λ form. form ≡ spec.form_of (map view blobs.now)) }
+pub fn form_of(alloc: Global, blobs: &[Blob]) -> Result<Option<Form>, Memory>
+    ensures { IfOk result (λ form. form ≡ spec.form_of (map blob_view blobs.now)) }
 {
-    if blobs.len() == 0 {
-        return Ok(Some(Form::Empty));
-    }
-    if blobs.len() != 3 {
-        return Ok(None);
-    }
-    match listed_by(alloc, &blobs[0], &blobs[1], &blobs[2])? {
-        Some(listed) => Ok(Some(Form::One(listed))),
-        None => Ok(None),
+    match blobs {
+        [] => Ok(Some(Form::Empty)),
+        [package_blob, channel, bundle] => {
+            match listed_by(alloc, &package_blob.value, &channel.value, &bundle.value)? {
+                Some(listed) => Ok(Some(Form::One(listed))),
+                None => Ok(None),
+            }
+        }
+        [_] => Ok(None),
+        [_, _] => Ok(None),
+        _ => Ok(None),
     }
 }

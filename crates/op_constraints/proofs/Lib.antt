@@ -1,0 +1,9 @@
+pub mod Order
+pub mod WalkLaws
+pub mod Full
+pub mod Looking
+pub mod Keeping
+pub mod Testing
+pub mod Standing
+pub mod Steps
+pub mod Taking

@@ -1,10 +1,8 @@
 -- How many fields an object has, and its list's one item, by the entries and items that code sees.
-use Rattle.std.proofs.Common.{◌≡◌, ℕ, suc, List, [], ◌∷◌, length, refl, ap, ◌∙◌, sym, map, true, false, ◌==◌, Option, Some, None, option_map, slice_get, arith, Bor}
+use Rattle.std.proofs.Common.{◌≡◌, suc, List, [], ◌∷◌, length, refl, ap, Option, Some, None, option_map, slice_get, arith, Bor}
 use Rattle.std.specs.Prelude.{String}
 use Rattle.std.specs.Option.{option_copied}
 use Rattle.std.specs.declared.alloc.Global.{Global}
-use Rattle.std.proofs.lemmas.Bool.{eqb-true}
-use Rattle.serde_json.specs.Data.{Data}
 use Rattle.serde_json.specs.View.{members_view, items_view, view}
 use Rattle.serde_json.specs.declared.value.Value.{Value}
 use Rattle.olmctl.specs.FieldReading.{count_members, sole}

@@ -1,5 +1,5 @@
 -- The first form of a catalog: no blob at all; or one package, one channel with one entry, and one bundle, in this order, which belong together.
-use Rattle.std.specs.Prelude.{ℕ, suc, ◌==◌, ◌&&◌, ◌||◌, not, nat_le, List, [], ◌∷◌, length, take, drop, slice_index_or, codes, Bool, true, false, if◌then◌else◌, Option, Some, None, is_some, option_map}
+use Rattle.std.specs.Prelude.{ℕ, suc, ◌==◌, ◌&&◌, ◌||◌, not, nat_le, List, [], ◌∷◌, length, take, drop, slice_index_or, codes, Bool, false, if◌then◌else◌, Option, Some, None, is_some, option_map}
 use Rattle.std.specs.Option.{option_and_then, option_map_or}
 use Rattle.std.specs.List.{list_all, take_while}
 use Rattle.serde_json.specs.Data.{Data}

@@ -1,5 +1,5 @@
 -- The words of the command line.
-use Rattle.std.specs.Prelude.{ℕ, ◌==◌, ◌&&◌, not, nat_eq, List, [], ◌∷◌, codes, Bool, true, false}
+use Rattle.std.specs.Prelude.{ℕ, ◌==◌, ◌&&◌, not, nat_eq, List, [], ◌∷◌, codes, Bool, false}
 use Rattle.std.specs.Cmp.Lexicographic.{pointwise}
 
 -- a word that is no option, and not empty

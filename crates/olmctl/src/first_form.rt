@@ -233,16 +233,14 @@ fn listed_by(
 pub fn form_of(alloc: Global, blobs: &[Blob]) -> Result<Option<Form>, Memory>
     ensures { IfOk result (λ form. form ≡ spec.form_of (map blob_view blobs.now)) }
 {
-    match blobs {
-        [] => Ok(Some(Form::Empty)),
-        [package_blob, channel, bundle] => {
-            match listed_by(alloc, &package_blob.value, &channel.value, &bundle.value)? {
-                Some(listed) => Ok(Some(Form::One(listed))),
-                None => Ok(None),
-            }
-        }
-        [_] => Ok(None),
-        [_, _] => Ok(None),
-        _ => Ok(None),
+    if blobs.len() == 0 {
+        return Ok(Some(Form::Empty));
+    }
+    if blobs.len() != 3 {
+        return Ok(None);
+    }
+    match listed_by(alloc, &blobs[0].value, &blobs[1].value, &blobs[2].value)? {
+        Some(listed) => Ok(Some(Form::One(listed))),
+        None => Ok(None),
     }
 }

@@ -1,4 +1,4 @@
-use Rattle.std.proofs.Common.{◌≡◌, ◌∙◌, sym, ap}
+use Rattle.std.proofs.Common.{◌∙◌, sym, ap}
 use Rattle.std.specs.Option.{option_map_or}
 use Rattle.olmctl.specs.FieldReading.{count_members}
 use Rattle.olmctl.proofs.Counted.{count_view}

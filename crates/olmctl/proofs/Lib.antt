@@ -1,0 +1,4 @@
+mod Counted
+mod Forms
+mod Decided
+mod Answered

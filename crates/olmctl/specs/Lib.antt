@@ -1,0 +1,5 @@
+pub mod Answers
+pub mod Choice
+pub mod FieldReading
+pub mod FirstForm
+pub mod Words

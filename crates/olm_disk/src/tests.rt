@@ -8,7 +8,9 @@ use std::process::Abort;
 use std::test::Fail;
 use std::{env, fs};
 
-fn bytes(alloc: Global, text: &[u8]) -> Result<Bytes, AllocError> {
+fn bytes(alloc: Global, text: &[u8]) -> Result<Bytes, AllocError>
+    ensures { IfOk result (λ bytes. bytes ≡ text.now) }
+{
     Ok(Bytes::from_vec(Vec::from_slice(alloc, text)?))
 }
 

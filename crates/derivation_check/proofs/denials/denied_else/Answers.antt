@@ -43,7 +43,7 @@ loop-number-preserved c =
     let part = cut_at c.args.numbers.now c.args.steps.now i next c.loop-number-test.true c.loop-number.invariant.paired in
     let room : number ≤ length (drop next c.args.steps.now) = part.room in
     let low = goes_on P c.loop-number.path.problem chosen c.args.numbers.now i c.loop-number.invariant.problem c.loop-number-test.true c.loop-number.invariant.onward in
-    let on : c.take.new.self ≡ taken c.loop-number.path number = c.take.ensures ∙ ap (λ w. taken w number) c.choice_denied.ensures.same in
+    let on : c.take.new.self ≡ taken c.loop-number.path number = c.take.ensures.taken ∙ ap (λ w. taken w number) c.choice_denied.ensures.same in
     let found = found_between P c.loop-number.path.problem chosen c.args.steps.now next number None c.loop-number.invariant.problem (sym c.choice_denied.ensures.fault ∙ c.in-None.is) in
     record {
       problem = ap (λ (w : Walked). w.problem) on ∙ c.loop-number.invariant.problem;

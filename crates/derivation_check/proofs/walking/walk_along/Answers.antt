@@ -14,7 +14,7 @@ returns-then-not-offers-clause-fault c =
 pub loop-i-preserved : goal.loop-i-preserved
 loop-i-preserved c =
     let number = get_or c.args.numbers.now c.loop-i.i 0 in
-    let on : c.take.new.self ≡ taken c.loop-i.path number = c.take.ensures ∙ ap (λ w. taken w number) c.offers.ensures.same in
+    let on : c.take.new.self ≡ taken c.loop-i.path number = c.take.ensures.taken ∙ ap (λ w. taken w number) c.offers.ensures.same in
     let in_list : nat_lt number (length (choice c.loop-i.path.problem c.loop-i.path.chosen)) ≡ true = sym c.offers.ensures.offered ∙ c.if-not-offers.false in
     let low = ltb-true number (length (choice c.loop-i.path.problem c.loop-i.path.chosen)) in_list in
     record {

@@ -8,6 +8,7 @@
 #![tactic(auto)]
 
 mod laws;
+mod reading;
 mod sink;
 #[cfg(test)]
 mod tests;
@@ -19,6 +20,7 @@ pub use laws::{
 };
 use olm_base::Many;
 use op_constraints::{Lit, VarId};
+pub use reading::{CertText, read_certificate};
 pub use sink::ProofSink;
 pub use text::write_certificate;
 use thiserror::Error;

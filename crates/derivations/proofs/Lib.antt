@@ -6,3 +6,4 @@ pub mod Parts
 pub mod Numbers
 pub mod Each
 pub mod Rows
+pub mod Pieces

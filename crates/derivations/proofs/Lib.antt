@@ -7,3 +7,5 @@ pub mod Numbers
 pub mod Each
 pub mod Rows
 pub mod Pieces
+pub mod Written
+pub mod Again

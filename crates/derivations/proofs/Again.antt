@@ -84,12 +84,14 @@ step_text_is text x h =
     ∙ ap step_in m.2
 
 abbrev step_shown : ℕ × ℕ × Refutation → List ℕ
-step_shown x = codes "refute " ++ step_in x
+step_shown x = codes "refute" ++ token (decimal x.0) ++ token (decimal x.1) ++ clause_text x.2.lits x.2.hints
 
 step_is : (text : List ℕ) (x : ℕ × ℕ × Refutation) → step text ≡ Ok x → text ≡ step_shown x
 step_is text x h =
     let t = there_is (behind (codes "refute ") text) step_text x h in
-    behind_is (codes "refute ") text t.0 t.1 ∙ ap (λ (c : List ℕ). codes "refute " ++ c) (step_text_is t.0 x t.2)
+    behind_is (codes "refute ") text t.0 t.1
+    ∙ ap (λ (c : List ℕ). codes "refute " ++ c) (step_text_is t.0 x t.2)
+    ∙ ap (λ (c : List ℕ). codes "refute " ++ c) (sym (append_assoc (decimal x.0) (32 ∷ decimal x.1) (clause_text x.2.lits x.2.hints)))
 
 -- ---- lines
 
@@ -172,3 +174,131 @@ module _ {A : Type 0} (words : List ℕ) (read : List ℕ → Result A LineFault
   lines_is n (text ∷ next ∷ more) x h =
       one_more (text ∷ next ∷ more) (next ∷ more) text (item words read n text) (lines words read (n + 1) (next ∷ more)) x refl
       (λ y e. item_from (is_some (behind words text)) n text y e) (λ o e. lines_is (n + 1) (next ∷ more) o e) h
+
+-- ---- the first line and the last
+
+abbrev kind_line : Kind → List ℕ
+kind_line kinds.Chosen = codes "certificate 1 chosen"
+kind_line kinds.Refused = codes "certificate 1 refused"
+kind_line kinds.Undecided = codes "certificate 1 undecided"
+
+abbrev kind_word : Kind → List ℕ
+kind_word kinds.Chosen = codes "chosen\n"
+kind_word kinds.Refused = codes "refused\n"
+kind_word kinds.Undecided = codes "undecided\n"
+
+word_from : (text : List ℕ) (a b c : Bool) (k : Kind)
+    → (a ≡ true → text ≡ codes "certificate 1 chosen") → (b ≡ true → text ≡ codes "certificate 1 refused") → (c ≡ true → text ≡ codes "certificate 1 undecided")
+    → ◌≡◌ {A = Result Kind LineFault} (cond a (Ok kinds.Chosen) (cond b (Ok kinds.Refused) (cond c (Ok kinds.Undecided) (Err Form)))) (Ok k)
+    → text ≡ kind_line k
+word_from text true b c k p q r h = let e : kinds.Chosen ≡ k = cc in p refl ∙ ap kind_line e
+word_from text false true c k p q r h = let e : kinds.Refused ≡ k = cc in q refl ∙ ap kind_line e
+word_from text false false true k p q r h = let e : kinds.Undecided ≡ k = cc in r refl ∙ ap kind_line e
+word_from text false false false k p q r h = absurd cc
+
+word_is : (text : List ℕ) (k : Kind) → word text ≡ Ok k → text ≡ kind_line k
+word_is text k h =
+    word_from text (pointwise nat_eq text (codes "certificate 1 chosen")) (pointwise nat_eq text (codes "certificate 1 refused")) (pointwise nat_eq text (codes "certificate 1 undecided")) k
+    (same_text text (codes "certificate 1 chosen")) (same_text text (codes "certificate 1 refused")) (same_text text (codes "certificate 1 undecided")) h
+
+end_from : (text : List ℕ) (b : Bool) (u : Unit {0}) → (b ≡ true → text ≡ codes "end") → ◌≡◌ {A = Result (Unit {0}) LineFault} (cond b (Ok tt) (Err Form)) (Ok u) → text ≡ codes "end"
+end_from text true u p h = p refl
+end_from text false u p h = absurd cc
+
+nothing_is : (n : ℕ) (texts : List (List ℕ)) (u : Unit {0}) → nothing n texts ≡ Ok u → unlined texts ≡ []
+nothing_is n [] u h = absurd cc
+nothing_is n ([] ∷ []) u h = refl
+nothing_is n ([] ∷ text ∷ texts) u h = absurd cc
+nothing_is n ((x ∷ xs) ∷ texts) u h = absurd cc
+
+ended_is : (n : ℕ) (texts : List (List ℕ)) (u : Unit {0}) → ended n texts ≡ Ok u → unlined texts ≡ codes "end\n"
+ended_is n texts u h =
+    let t = then_is (line end n texts) (λ last. nothing (n + 1) last.1) u h in
+    let l = line_is end n texts t.0 t.1 in
+    l.2 ∙ ap (λ (s : List ℕ). s ++ 10 ∷ unlined t.0.1) (end_from l.0 (pointwise nat_eq l.0 (codes "end")) t.0.0 (same_text l.0 (codes "end")) l.1)
+    ∙ ap (λ (s : List ℕ). codes "end\n" ++ s) (nothing_is (n + 1) t.0.1 u t.2)
+
+-- ---- the finding
+
+abbrev Found : Type 0
+Found = Finding × ℕ × List (List ℕ)
+
+abbrev found_text : Found → List ℕ
+found_text x = finding_lines x.0 ++ unlined x.2
+
+abbrev walk_text : List ℕ → List ℕ
+walk_text ns = codes "walk" ++ joined (λ n. token (decimal n)) ns
+
+chosen_is : (n : ℕ) (texts : List (List ℕ)) (x : Found) → chosen n texts ≡ Ok x → (unlined texts ≡ found_text x) × (codes "chosen\n" ≡ finding_word x.0)
+chosen_is n texts x h =
+    let t = then_is (line walk n texts) (λ taken. and_then (lines (codes "refute") step (n + 1) taken.1) (λ steps. Ok (Chosen taken.0 steps.0, n + 1 + length steps.0, steps.1))) x h in
+    let u = then_is (lines (codes "refute") step (n + 1) t.0.1) (λ steps. Ok (Chosen t.0.0 steps.0, n + 1 + length steps.0, steps.1)) x t.2 in
+    let l = line_is walk n texts t.0 t.1 in
+    let e : ◌≡◌ {A = Found} (Chosen t.0.0 u.0.0, n + 1 + length u.0.0, u.0.1) x = ok_is _ x u.2 in
+    (l.2
+        ∙ ap (λ (s : List ℕ). s ++ 10 ∷ unlined t.0.1) (walk_is l.0 t.0.0 l.1)
+        ∙ ap (λ (s : List ℕ). walk_text t.0.0 ++ 10 ∷ s) (lines_is (codes "refute") step step_shown step_is (n + 1) t.0.1 u.0 u.1)
+        ∙ sym (append_assoc (walk_text t.0.0) (10 ∷ []) (joined step_line u.0.0 ++ unlined u.0.1))
+        ∙ sym (append_assoc (walk_text t.0.0 ++ 10 ∷ []) (joined step_line u.0.0) (unlined u.0.1))
+        ∙ ap found_text e,
+    ap (λ (y : Found). finding_word y.0) e)
+
+finding_is : (k : Kind) (n : ℕ) (texts : List (List ℕ)) (x : Found) → finding k n texts ≡ Ok x → (unlined texts ≡ found_text x) × (kind_word k ≡ finding_word x.0)
+finding_is kinds.Undecided n texts x h =
+    let e : ◌≡◌ {A = Found} (Undecided, n, texts) x = ok_is _ x h in
+    (ap found_text e, ap (λ (y : Found). finding_word y.0) e)
+finding_is kinds.Refused n texts x h =
+    let t = then_is (line whole n texts) (λ found. Ok (Refused found.0, n + 1, found.1)) x h in
+    let l = line_is whole n texts t.0 t.1 in
+    let e : ◌≡◌ {A = Found} (Refused t.0.0, n + 1, t.0.1) x = ok_is _ x t.2 in
+    (l.2
+        ∙ ap (λ (s : List ℕ). s ++ 10 ∷ unlined t.0.1) (whole_is l.0 t.0.0 l.1)
+        ∙ sym (append_assoc (whole_text t.0.0) (10 ∷ []) (unlined t.0.1))
+        ∙ ap found_text e,
+    ap (λ (y : Found). finding_word y.0) e)
+finding_is kinds.Chosen n texts x h = chosen_is n texts x h
+
+-- ---- the whole
+
+four : (d j f e : List ℕ) → d ++ 10 ∷ (j ++ (f ++ e)) ≡ d ++ (10 ∷ []) ++ j ++ f ++ e
+four d j f e =
+    sym (append_assoc d (10 ∷ []) (j ++ (f ++ e)))
+    ∙ sym (append_assoc (d ++ 10 ∷ []) j (f ++ e))
+    ∙ sym (append_assoc (d ++ (10 ∷ []) ++ j) f e)
+
+whole_text_is : (k : Kind) (d j f e : List ℕ) → kind_line k ++ 10 ∷ ((codes "vars " ++ d) ++ 10 ∷ (j ++ (f ++ e))) ≡ codes "certificate 1 " ++ kind_word k ++ codes "vars" ++ token d ++ codes "\n" ++ j ++ f ++ e
+whole_text_is kinds.Chosen d j f e = ap (λ (s : List ℕ). codes "certificate 1 chosen\nvars " ++ s) (four d j f e)
+whole_text_is kinds.Refused d j f e = ap (λ (s : List ℕ). codes "certificate 1 refused\nvars " ++ s) (four d j f e)
+whole_text_is kinds.Undecided d j f e = ap (λ (s : List ℕ). codes "certificate 1 undecided\nvars " ++ s) (four d j f e)
+
+abbrev made_of : ℕ → List Lemma → Finding → Certificate
+made_of v ls f = record { vars = v; log = record { lemmas = ls }; finding = f }
+
+body_is : (k : Kind) (v : ℕ) (texts : List (List ℕ)) (c : Certificate) → body k v texts ≡ Ok c
+    → (ls : List Lemma) × (f : Finding) × (made_of v ls f ≡ c) × (kind_word k ≡ finding_word f) × (unlined texts ≡ joined lemma_line ls ++ (finding_lines f ++ codes "end\n"))
+body_is k v texts c h =
+    let t = then_is (lines (codes "lemma") lemma 3 texts) (λ lemmas. and_then (finding k (3 + length lemmas.0) lemmas.1) (λ found. and_then (ended found.1 found.2) (λ _. Ok (made_of v lemmas.0 found.0)))) c h in
+    let u = then_is (finding k (3 + length t.0.0) t.0.1) (λ found. and_then (ended found.1 found.2) (λ _. Ok (made_of v t.0.0 found.0))) c t.2 in
+    let w = then_is (ended u.0.1 u.0.2) (λ _. Ok (made_of v t.0.0 u.0.0)) c u.2 in
+    let f = finding_is k (3 + length t.0.0) t.0.1 u.0 u.1 in
+    (t.0.0, u.0.0, ok_is (made_of v t.0.0 u.0.0) c w.2, f.1,
+        lines_is (codes "lemma") lemma lemma_text lemma_is 3 texts t.0 t.1
+        ∙ ap (λ (s : List ℕ). joined lemma_line t.0.0 ++ s) f.0
+        ∙ ap (λ (s : List ℕ). joined lemma_line t.0.0 ++ (finding_lines u.0.0 ++ s)) (ended_is u.0.1 u.0.2 w.0 w.1))
+
+certificate_is : (texts : List (List ℕ)) (c : Certificate) → certificate texts ≡ Ok c → unlined texts ≡ certificate_text c
+certificate_is texts c h =
+    let t = then_is (line word 1 texts) (λ first. and_then (line vars 2 first.1) (λ count. body first.0 count.0 count.1)) c h in
+    let u = then_is (line vars 2 t.0.1) (λ count. body t.0.0 count.0 count.1) c t.2 in
+    let b = body_is t.0.0 u.0.0 u.0.1 c u.2 in
+    let l = line_is word 1 texts t.0 t.1 in
+    let m = line_is vars 2 t.0.1 u.0 u.1 in
+    l.2
+    ∙ ap (λ (s : List ℕ). s ++ 10 ∷ unlined t.0.1) (word_is l.0 t.0.0 l.1)
+    ∙ ap (λ (s : List ℕ). kind_line t.0.0 ++ 10 ∷ s) (m.2 ∙ ap (λ (s : List ℕ). s ++ 10 ∷ unlined u.0.1) (vars_is m.0 u.0.0 m.1) ∙ ap (λ (s : List ℕ). (codes "vars " ++ decimal u.0.0) ++ 10 ∷ s) b.4)
+    ∙ whole_text_is t.0.0 (decimal u.0.0) (joined lemma_line b.0) (finding_lines b.1) (codes "end\n")
+    ∙ ap (λ (s : List ℕ). codes "certificate 1 " ++ s ++ codes "vars" ++ token (decimal u.0.0) ++ codes "\n" ++ joined lemma_line b.0 ++ finding_lines b.1 ++ codes "end\n") b.3
+    ∙ ap certificate_text b.2
+
+pub read_is_written : (text : List ℕ) (c : Certificate) → certificate_of text ≡ Ok c → text ≡ certificate_text c
+read_is_written text c h = unlined_parts text ∙ certificate_is (parts 10 text) c h

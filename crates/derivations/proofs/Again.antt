@@ -234,14 +234,15 @@ chosen_is n texts x h =
     let t = then_is (line walk n texts) (λ taken. and_then (lines (codes "refute") step (n + 1) taken.1) (λ steps. Ok (Chosen taken.0 steps.0, n + 1 + length steps.0, steps.1))) x h in
     let u = then_is (lines (codes "refute") step (n + 1) t.0.1) (λ steps. Ok (Chosen t.0.0 steps.0, n + 1 + length steps.0, steps.1)) x t.2 in
     let l = line_is walk n texts t.0 t.1 in
-    let e : ◌≡◌ {A = Found} (Chosen t.0.0 u.0.0, n + 1 + length u.0.0, u.0.1) x = ok_is _ x u.2 in
-    (l.2
-        ∙ ap (λ (s : List ℕ). s ++ 10 ∷ unlined t.0.1) (walk_is l.0 t.0.0 l.1)
-        ∙ ap (λ (s : List ℕ). walk_text t.0.0 ++ 10 ∷ s) (lines_is (codes "refute") step step_shown step_is (n + 1) t.0.1 u.0 u.1)
-        ∙ sym (append_assoc (walk_text t.0.0) (10 ∷ []) (joined step_line u.0.0 ++ unlined u.0.1))
-        ∙ sym (append_assoc (walk_text t.0.0 ++ 10 ∷ []) (joined step_line u.0.0) (unlined u.0.1))
-        ∙ ap found_text e,
-    ap (λ (y : Found). finding_word y.0) e)
+    let e : ◌≡◌ {A = Found} (Chosen t.0.0 u.0.0, n + 1 + length u.0.0, u.0.1) x = ok_is _ x u.2 in (
+      l.2
+          ∙ ap (λ (s : List ℕ). s ++ 10 ∷ unlined t.0.1) (walk_is l.0 t.0.0 l.1)
+          ∙ ap (λ (s : List ℕ). walk_text t.0.0 ++ 10 ∷ s) (lines_is (codes "refute") step step_shown step_is (n + 1) t.0.1 u.0 u.1)
+          ∙ sym (append_assoc (walk_text t.0.0) (10 ∷ []) (joined step_line u.0.0 ++ unlined u.0.1))
+          ∙ sym (append_assoc (walk_text t.0.0 ++ 10 ∷ []) (joined step_line u.0.0) (unlined u.0.1))
+          ∙ ap found_text e,
+      ap (λ (y : Found). finding_word y.0) e,
+    )
 
 finding_is : (k : Kind) (n : ℕ) (texts : List (List ℕ)) (x : Found) → finding k n texts ≡ Ok x → (unlined texts ≡ found_text x) × (kind_word k ≡ finding_word x.0)
 finding_is kinds.Undecided n texts x h =
@@ -250,12 +251,13 @@ finding_is kinds.Undecided n texts x h =
 finding_is kinds.Refused n texts x h =
     let t = then_is (line whole n texts) (λ found. Ok (Refused found.0, n + 1, found.1)) x h in
     let l = line_is whole n texts t.0 t.1 in
-    let e : ◌≡◌ {A = Found} (Refused t.0.0, n + 1, t.0.1) x = ok_is _ x t.2 in
-    (l.2
-        ∙ ap (λ (s : List ℕ). s ++ 10 ∷ unlined t.0.1) (whole_is l.0 t.0.0 l.1)
-        ∙ sym (append_assoc (whole_text t.0.0) (10 ∷ []) (unlined t.0.1))
-        ∙ ap found_text e,
-    ap (λ (y : Found). finding_word y.0) e)
+    let e : ◌≡◌ {A = Found} (Refused t.0.0, n + 1, t.0.1) x = ok_is _ x t.2 in (
+      l.2
+          ∙ ap (λ (s : List ℕ). s ++ 10 ∷ unlined t.0.1) (whole_is l.0 t.0.0 l.1)
+          ∙ sym (append_assoc (whole_text t.0.0) (10 ∷ []) (unlined t.0.1))
+          ∙ ap found_text e,
+      ap (λ (y : Found). finding_word y.0) e,
+    )
 finding_is kinds.Chosen n texts x h = chosen_is n texts x h
 
 -- ---- the whole
@@ -280,11 +282,15 @@ body_is k v texts c h =
     let t = then_is (lines (codes "lemma") lemma 3 texts) (λ lemmas. and_then (finding k (3 + length lemmas.0) lemmas.1) (λ found. and_then (ended found.1 found.2) (λ _. Ok (made_of v lemmas.0 found.0)))) c h in
     let u = then_is (finding k (3 + length t.0.0) t.0.1) (λ found. and_then (ended found.1 found.2) (λ _. Ok (made_of v t.0.0 found.0))) c t.2 in
     let w = then_is (ended u.0.1 u.0.2) (λ _. Ok (made_of v t.0.0 u.0.0)) c u.2 in
-    let f = finding_is k (3 + length t.0.0) t.0.1 u.0 u.1 in
-    (t.0.0, u.0.0, ok_is (made_of v t.0.0 u.0.0) c w.2, f.1,
-        lines_is (codes "lemma") lemma lemma_text lemma_is 3 texts t.0 t.1
-        ∙ ap (λ (s : List ℕ). joined lemma_line t.0.0 ++ s) f.0
-        ∙ ap (λ (s : List ℕ). joined lemma_line t.0.0 ++ (finding_lines u.0.0 ++ s)) (ended_is u.0.1 u.0.2 w.0 w.1))
+    let f = finding_is k (3 + length t.0.0) t.0.1 u.0 u.1 in (
+      t.0.0,
+      u.0.0,
+      ok_is (made_of v t.0.0 u.0.0) c w.2,
+      f.1,
+      lines_is (codes "lemma") lemma lemma_text lemma_is 3 texts t.0 t.1
+          ∙ ap (λ (s : List ℕ). joined lemma_line t.0.0 ++ s) f.0
+          ∙ ap (λ (s : List ℕ). joined lemma_line t.0.0 ++ (finding_lines u.0.0 ++ s)) (ended_is u.0.1 u.0.2 w.0 w.1),
+    )
 
 certificate_is : (texts : List (List ℕ)) (c : Certificate) → certificate texts ≡ Ok c → unlined texts ≡ certificate_text c
 certificate_is texts c h =

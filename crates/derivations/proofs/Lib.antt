@@ -9,3 +9,4 @@ pub mod Rows
 pub mod Pieces
 pub mod Written
 pub mod Again
+pub mod Bounded

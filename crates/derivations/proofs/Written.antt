@@ -60,7 +60,6 @@ number_is digits n h =
 
 -- ---- items one after the other
 
-
 module _ {A : Type 0} (byte : ℕ) (read : List ℕ → Result A LineFault) (show : A → List ℕ) (written : (text : List ℕ) (x : A) → read text ≡ Ok x → text ≡ show x) where
   pub each_is : (texts : List (List ℕ)) (xs : List A) → each read texts ≡ Ok xs → joined (λ part. byte ∷ part) texts ≡ joined (λ x. byte ∷ show x) xs
   each_is [] xs h = let e : xs ≡ [] = cc in rw e refl
@@ -132,7 +131,7 @@ given_is text around x e h =
     let m = made_is (λ (x : ℕ × (ℕ × List ℕ)). Given x.0 x.1.0 x.1.1) (both (λ v rest. (v, rest)) (number around.0) (place around.1 (cut 40 around.1))) x h in
     let b = both_is (λ v rest. (v, rest)) (number around.0) (place around.1 (cut 40 around.1)) m.0 m.1 in
     let whole : text ≡ decimal b.0 ++ 46 ∷ (decimal b.1.0 ++ members_text b.1.1) =
-        cut_is 46 text around e ∙ ap (λ (t : List ℕ). t ++ 46 ∷ around.1) (number_is around.0 b.0 b.2) ∙ ap (λ (t : List ℕ). decimal b.0 ++ 46 ∷ t) (place_of around.1 (cut 40 around.1) b.1 refl b.3) in
+    cut_is 46 text around e ∙ ap (λ (t : List ℕ). t ++ 46 ∷ around.1) (number_is around.0 b.0 b.2) ∙ ap (λ (t : List ℕ). decimal b.0 ++ 46 ∷ t) (place_of around.1 (cut 40 around.1) b.1 refl b.3) in
     ap (λ (t : List ℕ). 71 ∷ t) whole
     ∙ ap (λ (t : List ℕ). 71 ∷ t) (sym (append_assoc (decimal b.0) (46 ∷ decimal b.1.0) (members_text b.1.1)))
     ∙ ap (λ (y : ℕ × (ℕ × List ℕ)). hint_text (Given y.0 y.1.0 y.1.1)) b.4

@@ -1,5 +1,5 @@
 -- What the definitions promise together.
-use Rattle.std.specs.Prelude.{◌≡◌, ◌↔◌, ℕ, Bool, true, List, ◌++◌, Option, Some, Ok}
+use Rattle.std.specs.Prelude.{◌≡◌, ◌↔◌, ℕ, Bool, true, List, ◌++◌, Option, Some, Ok, length, ◌+◌, ◌≤◌}
 use Rattle.std.specs.List.{AllByRecursion}
 use Rattle.op_constraints.specs.declared.Lit.{Lit}
 use Rattle.op_constraints.specs.declared.Constraint.{Constraint}
@@ -81,3 +81,13 @@ AcceptedIsRight = (problem : List (List Constraint)) (certificate : Certificate)
 -- a text that is read as a certificate is the spelling of it, so no other text is read
 abbrev pub ReadIsWritten : Type 0
 ReadIsWritten = (text : List ℕ) (certificate : Certificate) → certificate_of text ≡ Ok certificate → text ≡ certificate_text certificate
+
+-- the walk's numbers and the refutations of a finding
+abbrev pub entries : Finding → ℕ
+entries (Chosen numbers steps) = length numbers + length steps
+entries (Refused refutation) = 1
+entries Undecided = 0
+
+-- what is read has no more lemmas, walk numbers and refutations together than its text has bytes
+abbrev pub ReadIsBounded : Type 0
+ReadIsBounded = (text : List ℕ) (certificate : Certificate) → certificate_of text ≡ Ok certificate → length certificate.log.lemmas + entries certificate.finding ≤ length text

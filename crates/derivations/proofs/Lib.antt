@@ -2,3 +2,11 @@ pub mod Sound
 pub mod Converse
 pub mod Best
 pub mod Grows
+pub mod Parts
+pub mod Numbers
+pub mod Each
+pub mod Rows
+pub mod Pieces
+pub mod Written
+pub mod Again
+pub mod Bounded

@@ -1,5 +1,5 @@
 -- What the definitions promise together.
-use Rattle.std.specs.Prelude.{◌≡◌, ◌↔◌, ℕ, Bool, true, List, ◌++◌, Option, Some}
+use Rattle.std.specs.Prelude.{◌≡◌, ◌↔◌, ℕ, Bool, true, List, ◌++◌, Option, Some, Ok, length, ◌+◌, ◌≤◌}
 use Rattle.std.specs.List.{AllByRecursion}
 use Rattle.op_constraints.specs.declared.Lit.{Lit}
 use Rattle.op_constraints.specs.declared.Constraint.{Constraint}
@@ -11,6 +11,8 @@ use Rattle.derivations.specs.declared.Finding.{Finding}
 use Rattle.derivations.specs.declared.Finding.TheVariants.{Chosen, Refused, Undecided}
 use Rattle.derivations.specs.Accepted.{IsAccepted}
 use Rattle.op_constraints.specs.Walks.{IsBest}
+use Rattle.derivations.specs.Text.{certificate_text}
+use Rattle.derivations.specs.Reading.{certificate_of}
 use Rattle.derivations.specs.Clauses.{given_clause, clause_holds}
 use Rattle.op_constraints.specs.Kept.{HasDistinctMembers}
 use Rattle.derivations.specs.Follows.{clauses, Follows, LogFollows}
@@ -75,3 +77,17 @@ IsRight problem Undecided = Unit {0}
 -- an accepted walk is best, and where a refusal is accepted no set meets the problem
 abbrev pub AcceptedIsRight : Type 0
 AcceptedIsRight = (problem : List (List Constraint)) (certificate : Certificate) → IsAccepted problem certificate → IsRight problem certificate.finding
+
+-- a text that is read as a certificate is the spelling of it, so no other text is read
+abbrev pub ReadIsWritten : Type 0
+ReadIsWritten = (text : List ℕ) (certificate : Certificate) → certificate_of text ≡ Ok certificate → text ≡ certificate_text certificate
+
+-- the walk's numbers and the refutations of a finding
+abbrev pub entries : Finding → ℕ
+entries (Chosen numbers steps) = length numbers + length steps
+entries (Refused refutation) = 1
+entries Undecided = 0
+
+-- what is read has no more lemmas, walk numbers and refutations together than its text has bytes
+abbrev pub ReadIsBounded : Type 0
+ReadIsBounded = (text : List ℕ) (certificate : Certificate) → certificate_of text ≡ Ok certificate → length certificate.log.lemmas + entries certificate.finding ≤ length text

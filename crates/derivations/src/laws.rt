@@ -1,5 +1,5 @@
 // What the definitions promise together. Each law is the contract of a function that does nothing.
-ghost use Rattle.derivations.specs.Laws.{GivenClausesHold, ClausesAreTheProblem, FollowingHolds, LogHolds, LongerLogsKeep, AcceptedIsRight};
+ghost use Rattle.derivations.specs.Laws.{GivenClausesHold, ClausesAreTheProblem, FollowingHolds, LogHolds, LongerLogsKeep, AcceptedIsRight, ReadIsWritten, ReadIsBounded};
 
 /// A clause that a constraint gives holds of every set of which the constraint is true.
 pub fn given_clauses_hold()
@@ -29,4 +29,14 @@ pub fn longer_logs_keep()
 /// An accepted walk is best, and where a refusal is accepted no set meets the problem.
 pub fn accepted_is_right()
     ensures { AcceptedIsRight }
+{}
+
+/// A text that is read as a certificate is the one spelling of it.
+pub fn read_is_written()
+    ensures { ReadIsWritten }
+{}
+
+/// A certificate that was read has no more lemmas, walk numbers and refutations together than its text has bytes.
+pub fn read_is_bounded()
+    ensures { ReadIsBounded }
 {}

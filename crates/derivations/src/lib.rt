@@ -8,6 +8,7 @@
 #![tactic(auto)]
 
 mod laws;
+mod reading;
 mod sink;
 #[cfg(test)]
 mod tests;
@@ -15,10 +16,11 @@ mod text;
 
 pub use laws::{
     accepted_is_right, clauses_are_the_problem, following_holds, given_clauses_hold, log_holds,
-    longer_logs_keep,
+    longer_logs_keep, read_is_bounded, read_is_written,
 };
 use olm_base::Many;
 use op_constraints::{Lit, VarId};
+pub use reading::{CertText, read_certificate};
 pub use sink::ProofSink;
 pub use text::write_certificate;
 use thiserror::Error;

@@ -8,9 +8,12 @@ mod sure;
 
 pub use cluster::{Cluster, ClusterFault, PutAnswer};
 pub use cluster_history::{Base, Slot};
-pub use laws::views_show;
+pub use laws::{puts_keep_histories, views_show};
 pub use shared::{Shared, View};
 pub use sure::SureCluster;
 
 /// The most writes that a store takes.
 pub const WRITE_LIMIT: u64 = 16_777_216;
+
+#[cfg(test)]
+mod tests;

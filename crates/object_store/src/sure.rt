@@ -234,7 +234,12 @@ impl Cluster for SureCluster {
     ghost damage = { λ s. None };
 
     fn snapshot(&mut self, alloc: Global, namespace: &Name) -> Result<View, ClusterFault> {
-        match snapshot_of(alloc, namespace, self.writes.as_slice().len() as u64, &self.slots) {
+        match snapshot_of(
+            alloc,
+            namespace,
+            self.writes.as_slice().len() as u64,
+            &self.slots,
+        ) {
             Ok(view) => Ok(view),
             Err(_) => Err(ClusterFault::Memory),
         }

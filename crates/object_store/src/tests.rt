@@ -49,27 +49,41 @@ fn write(
     })
 }
 
+fn put(
+    alloc: Global,
+    cluster: &mut SureCluster,
+    expect: u64,
+    at: (&str, &[u8]),
+    step: Option<u64>,
+) -> Result<PutAnswer, Fail> {
+    Ok(cluster.put(alloc, write(alloc, expect, at.0, at.1, step)?))
+}
+
 fn seen(alloc: Global, cluster: &mut SureCluster) -> Result<View, Fail> {
     let namespace = Name::new(alloc, b"default")?;
     Ok(cluster.snapshot(alloc, &namespace)?)
 }
 
 // What a view shows at a key: the version, whether there is an object, and the number of stamps.
-fn shown(
-    alloc: Global,
-    view: &View,
-    namespace: &str,
-    name: &[u8],
-) -> Result<Option<(u64, bool, usize)>, Fail> {
-    let key = key(alloc, namespace, name)?;
-    Ok(match view.slot(&key) {
-        Some(slot) => Some((
+fn told(view: &View, key: &Key) -> (u64, bool, usize) {
+    match view.slot(key) {
+        Some(slot) => (
             slot.version,
             slot.object.is_some(),
             slot.stamps.as_slice().len(),
-        )),
-        None => None,
-    })
+        ),
+        None => (0, false, 0),
+    }
+}
+
+fn told_now(
+    alloc: Global,
+    cluster: &mut SureCluster,
+    name: &[u8],
+) -> Result<(u64, bool, usize), Fail> {
+    let key = key(alloc, "default", name)?;
+    let view = seen(alloc, cluster)?;
+    Ok(told(&view, &key))
 }
 
 // Puts into a store with room for five writes: the version that is expected, the name, the step or a removal, and
@@ -92,29 +106,26 @@ fn puts_are_answered(rt: HostRuntime) -> Result<(), Fail> {
     let alloc = rt.alloc();
     let mut cluster = SureCluster::new(alloc, 5);
     for (expect, name, step, wanted) in PUTS {
-        let write = write(alloc, expect, "default", name, step)?;
-        assert_eq!(rt; cluster.put(alloc, write), wanted);
+        assert_eq!(rt;
+            put(alloc, &mut cluster, expect, ("default", name), step)?,
+            wanted
+        );
     }
-    assert_eq!(rt; cluster.reopen(alloc), Ok(()));
-    let view = seen(alloc, &mut cluster)?;
-    assert_eq!(rt; view.length(), 5);
-    assert_eq!(rt; shown(alloc, &view, "default", b"a")?, Some((4, true, 2)));
-    assert_eq!(rt; shown(alloc, &view, "default", b"b")?, Some((5, false, 1)));
-    assert_eq!(rt; shown(alloc, &view, "default", b"c")?, None);
+    assert!(rt; cluster.reopen(alloc).is_ok());
+    assert!(rt; told_now(alloc, &mut cluster, b"a")? == (4, true, 2));
+    assert!(rt; told_now(alloc, &mut cluster, b"b")? == (5, false, 1));
+    assert!(rt; told_now(alloc, &mut cluster, b"c")? == (0, false, 0));
     Ok(())
 }
 
 #[test]
 fn a_limit_is_kept(rt: HostRuntime) -> Result<(), Fail> {
     let alloc = rt.alloc();
-    let mut none = SureCluster::new(alloc, 0);
-    let first = write(alloc, 0, "default", b"a", Some(0))?;
-    assert_eq!(rt; none.put(alloc, first), PutAnswer::Full);
-    let mut one = SureCluster::new(alloc, 1);
-    let first = write(alloc, 0, "default", b"a", Some(0))?;
-    assert_eq!(rt; one.put(alloc, first), PutAnswer::Done { version: 1 });
-    let second = write(alloc, 0, "default", b"b", Some(1))?;
-    assert_eq!(rt; one.put(alloc, second), PutAnswer::Full);
+    let mut cluster = SureCluster::new(alloc, 1);
+    let first = put(alloc, &mut cluster, 0, ("default", b"a"), Some(0))?;
+    assert_eq!(rt; first, PutAnswer::Done { version: 1 });
+    let second = put(alloc, &mut cluster, 0, ("default", b"b"), Some(1))?;
+    assert_eq!(rt; second, PutAnswer::Full);
     Ok(())
 }
 
@@ -127,6 +138,7 @@ const PUT: [(&str, &[u8]); 6] = [
     ("default", b"a"),
     ("", b"z"),
 ];
+
 const SHOWN: [(&str, &[u8]); 5] = [
     ("", b"z"),
     ("default", b"a"),
@@ -135,36 +147,51 @@ const SHOWN: [(&str, &[u8]); 5] = [
     ("openshift-marketplace", b"a"),
 ];
 
+// Whether a view shows these keys and no other.
+fn shows(view: &View, wanted: &[(&str, &[u8])]) -> bool {
+    let slots = view.slots();
+    if slots.len() != wanted.len() {
+        return false;
+    }
+    for (entry, at) in slots.iter().zip(wanted) {
+        if entry.0.namespace.as_str() != at.0 || entry.0.name.as_bytes() != at.1 {
+            return false;
+        }
+    }
+    true
+}
+
 #[test]
 fn a_view_shows_four_namespaces_in_order(rt: HostRuntime) -> Result<(), Fail> {
     let alloc = rt.alloc();
     let mut cluster = SureCluster::new(alloc, WRITE_LIMIT);
-    for (namespace, name) in PUT {
-        let write = write(alloc, 0, namespace, name, None)?;
-        assert_ne!(rt; cluster.put(alloc, write), PutAnswer::Memory);
+    for at in PUT {
+        put(alloc, &mut cluster, 0, at, None)?;
     }
     let view = seen(alloc, &mut cluster)?;
-    assert_eq!(rt; view.namespace().as_bytes(), b"default".as_slice());
-    assert_eq!(rt; view.slots().len(), 5);
-    for (entry, (namespace, name)) in view.slots().iter().zip(SHOWN) {
-        assert_eq!(rt; entry.0.namespace.as_str(), namespace);
-        assert_eq!(rt; entry.0.name.as_bytes(), name);
-    }
+    assert!(rt; view.length() == 6 && shows(&view, &SHOWN));
     Ok(())
+}
+
+// What a view tells of a key that is removed after it was taken.
+fn told_after_removal(
+    alloc: Global,
+    cluster: &mut SureCluster,
+    view: &View,
+) -> Result<(u64, bool, usize), Fail> {
+    put(alloc, cluster, 1, ("default", b"a"), None)?;
+    let key = key(alloc, "default", b"a")?;
+    Ok(told(view, &key))
 }
 
 #[test]
 fn a_view_stays_as_it_was(rt: HostRuntime) -> Result<(), Fail> {
     let alloc = rt.alloc();
     let mut cluster = SureCluster::new(alloc, WRITE_LIMIT);
-    let first = write(alloc, 0, "default", b"a", Some(0))?;
-    assert_eq!(rt; cluster.put(alloc, first), PutAnswer::Done { version: 1 });
+    put(alloc, &mut cluster, 0, ("default", b"a"), Some(0))?;
     let before = seen(alloc, &mut cluster)?;
-    let second = write(alloc, 1, "default", b"a", None)?;
-    assert_eq!(rt; cluster.put(alloc, second), PutAnswer::Done { version: 2 });
-    let after = seen(alloc, &mut cluster)?;
-    assert_eq!(rt; shown(alloc, &before, "default", b"a")?, Some((1, true, 1)));
-    assert_eq!(rt; shown(alloc, &after, "default", b"a")?, Some((2, false, 1)));
-    assert_eq!(rt; (before.length(), after.length()), (1, 2));
+    assert!(rt; told_after_removal(alloc, &mut cluster, &before)? == (1, true, 1));
+    assert!(rt; before.length() == 1);
+    assert!(rt; told_now(alloc, &mut cluster, b"a")? == (2, false, 1));
     Ok(())
 }

@@ -1,0 +1,79 @@
+// What every store of a history offers.
+ghost use Rattle.std.specs.Prelude.{◌≡◌, Bool, Option, true, not, ℕ, is_ok};
+ghost use Rattle.cluster_history.specs.History.{History};
+ghost use Rattle.cluster_objects.specs.declared.objects.Write.{Write};
+ghost use Rattle.olm_io.specs.Outside.{HasCause};
+ghost use Rattle.object_store.specs.Puts.{Puts, Snapshots, Reopens, has_room, put_failed, fault_failed};
+
+use crate::View;
+use cluster_objects::Write;
+use olm_base::Name;
+use std::alloc::Global;
+
+/// What a put came to.
+#[derive(Clone, Copy, Debug, PartialEq, Eq)]
+pub enum PutAnswer {
+    /// The write stands, at this position.
+    Done { version: u64 },
+    /// The key has another version than the write expects.
+    Conflict { found: u64 },
+    /// There is no room for the write.
+    Full,
+    /// The outside failed: the write stands or it doesn't.
+    Failed,
+    Memory,
+}
+
+/// Why a store gives no view or can't be opened again.
+#[derive(Clone, Copy, Debug, PartialEq, Eq)]
+pub enum ClusterFault {
+    Failed,
+    /// What is stored stands for no history, from this place on.
+    Damaged { at: u64 },
+    Memory,
+}
+
+/// A store of one history.
+pub trait Cluster {
+    ghost history: { Self → History };
+
+    /// The most writes that it takes.
+    ghost limit: { Self → ℕ };
+
+    /// Whether what holds this history has place for one write more.
+    ghost fits: { History → Write → Bool };
+
+    /// How often the outside has failed.
+    ghost faults: { Self → ℕ };
+
+    /// No call has failed since it was opened last.
+    ghost ready: { Self → Bool };
+
+    /// The place from which on what is stored stands for no history.
+    ghost damage: { Self → Option ℕ };
+
+    /// The slots that the namespace sees, and the history's length, at one moment.
+    fn snapshot(&mut self, alloc: Global, namespace: &Name) -> Result<View, ClusterFault>
+        requires { ready self.old ≡ true }
+        ensures view { Snapshots (history self.old) namespace.now result }
+        ensures history { history self.new ≡ history self.old }
+        ensures limit { limit self.new ≡ limit self.old }
+        ensures cause { HasCause (faults self.old) (faults self.new) (fault_failed result ≡ true) }
+        ensures ready { ready self.new ≡ not (fault_failed result) };
+
+    /// Appends the write, if its key has the version that it expects and there is room.
+    fn put(&mut self, alloc: Global, write: Write) -> PutAnswer
+        requires { ready self.old ≡ true }
+        ensures puts { Puts (has_room (fits (history self.old) write) (limit self.old) (history self.old)) (history self.old) write (history self.new) result }
+        ensures limit { limit self.new ≡ limit self.old }
+        ensures cause { HasCause (faults self.old) (faults self.new) (put_failed result ≡ true) }
+        ensures ready { ready self.new ≡ not (put_failed result) };
+
+    /// Opens the store again after a fault.
+    fn reopen(&mut self, alloc: Global) -> Result<(), ClusterFault>
+        ensures damage { Reopens (damage self.old) result }
+        ensures history { history self.new ≡ history self.old }
+        ensures limit { limit self.new ≡ limit self.old }
+        ensures cause { HasCause (faults self.old) (faults self.new) (fault_failed result ≡ true) }
+        ensures ready { ready self.new ≡ is_ok result };
+}

@@ -1,0 +1,19 @@
+//! Stores of a cluster's history, and the views that they give.
+#![tactic(auto)]
+
+mod cluster;
+mod laws;
+mod shared;
+mod sure;
+
+pub use cluster::{Cluster, ClusterFault, PutAnswer};
+pub use cluster_history::{Base, Slot};
+pub use laws::{puts_keep_histories, views_show};
+pub use shared::{Shared, View};
+pub use sure::SureCluster;
+
+/// The most writes that a store takes.
+pub const WRITE_LIMIT: u64 = 16_777_216;
+
+#[cfg(test)]
+mod tests;

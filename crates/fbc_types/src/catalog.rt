@@ -69,9 +69,7 @@ pub struct Catalog {
 impl Catalog {
     /// The catalog of no blobs.
     pub fn new(alloc: Global) -> Catalog
-        ensures {
-            result ≡ record { packages = []; channels = []; bundles = []; deprecations = []; manifests = [] }
-        }
+        ensures { result ≡ record { packages = []; channels = []; bundles = []; deprecations = []; manifests = [] } }
     {
         Catalog {
             packages: Many::new(alloc),

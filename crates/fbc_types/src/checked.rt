@@ -14,9 +14,13 @@ pub struct CheckedCatalog {
 impl Model for CheckedCatalog {
     ghost use Rattle.std.specs.Prelude.{◌≡◌, []};
     ghost use Rattle.fbc_types.specs.Rules.{broken};
+    ghost use Rattle.std.specs.Coded.{codes};
+    ghost use Rattle.fbc_types.specs.contracts.property.RawConstraint as raw_constraint;
     ghost use Rattle.fbc_types.specs.declared.catalog.Catalog.{Catalog};
 
     ghost Value = { Catalog };
+
+    ghost coded = { Prim.hlevel (codes, raw_constraint.the_row.coded) };
 
     ghost view = { λ checked. checked.catalog };
 

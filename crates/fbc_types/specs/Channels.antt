@@ -45,7 +45,7 @@ chain entries head = chain_from (suc (length entries)) entries (Some head)
 -- Some entry has the name of a later one.
 abbrev pub has_name_twice : List Entry → Bool
 has_name_twice [] = false
-has_name_twice (entry ∷ entries) = list_any (λ other. same other.name entry.name) entries || has_name_twice entries
+has_name_twice (entry ∷ entries) = list_any (λ other. same entry.name other.name) entries || has_name_twice entries
 
 -- Some entry of these has this name.
 abbrev pub has_name : List ℕ → List Entry → Bool

@@ -1,3 +1,4 @@
 pub mod Texts
 pub mod Channels
 pub mod Rules
+pub mod Laws

@@ -8,9 +8,16 @@
 mod catalog;
 mod checked;
 mod fault;
+mod laws;
 mod property;
 
 pub use catalog::{Bundle, Catalog, Channel, Deprecation, Entry, Manifests, Package};
 pub use checked::CheckedCatalog;
 pub use fault::CheckFault;
+pub use laws::{
+    bundles_are_read, channels_have_chains, entries_are_bundles, packages_have_defaults,
+};
 pub use property::{Property, RawConstraint};
+
+#[cfg(test)]
+mod tests;

@@ -91,6 +91,21 @@ fn failed_calls_change_only_what_may_be_left(rt: HostRuntime) -> Result<(), Fail
     Ok(())
 }
 
+#[test]
+fn at_its_last_moment_a_clock_stays(rt: HostRuntime) -> Result<(), Fail> {
+    let alloc = rt.alloc();
+    let mut disk = MemDisk::at_the_end(alloc, bytes(alloc, b"abc")?);
+    assert_eq!(rt; disk.write_at(0, b"X"), Ok(()));
+    assert_eq!(rt; disk.clock(), u64::MAX);
+    assert_image(&rt, alloc, &disk, (u64::MAX, Keep::Old, b"abc"));
+    assert_image(&rt, alloc, &disk, (u64::MAX, Keep::New, b"Xbc"));
+    assert_eq!(rt; disk.sync(), Ok(()));
+    assert_eq!(rt; disk.clock(), u64::MAX);
+    assert_image(&rt, alloc, &disk, (u64::MAX, Keep::Old, b"Xbc"));
+    assert_image(&rt, alloc, &disk, (u64::MAX - 1, Keep::New, b"abc"));
+    Ok(())
+}
+
 // Writes a few bytes at the front, cuts one off and reads them.
 fn use_disk<D: Disk>(rt: &impl Abort, disk: &mut D) {
     assert_eq!(rt; disk.write_at(0, b"hello"), Ok(()));

@@ -13,12 +13,6 @@ pairs_at [] k x h e = absurd (omega arith)
 pairs_at (s ∷ ss) zero x h e = ap (λ y. pair_of y ∷ map pair_of ss) (sym e)
 pairs_at (s ∷ ss) (suc k) x h e = pairs_at ss k x (omega arith) e
 
-pub pairs_end : (steps : List (ℕ × ℕ × Refutation)) (k : ℕ) → length steps ≤ k → drop k (map pair_of steps) ≡ []
-pairs_end [] zero h = refl
-pairs_end [] (suc k) h = refl
-pairs_end (s ∷ ss) zero h = absurd (omega arith)
-pairs_end (s ∷ ss) (suc k) h = pairs_end ss k (omega arith)
-
 not_next : (k : ℕ) (pair : ℕ × ℕ) (wanted given : List (ℕ × ℕ)) → is_next given pair ≡ false → pairs_fault k (pair ∷ wanted) given ≡ Some (Missing pair.0 pair.1)
 not_next k pair wanted [] e = refl
 not_next k pair wanted (next ∷ given) e = cond-false (is_pair pair next) (pairs_fault (k + 1) wanted given) (Some (Missing pair.0 pair.1)) e

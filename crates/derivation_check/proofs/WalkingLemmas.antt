@@ -48,10 +48,6 @@ walk_fails problem other chosen numbers i same h e =
     ap (λ ns. walk_fault problem chosen i ns) (drop-cons numbers i 0 h)
     ∙ ap (λ o. after_member o i (λ v. walk_fault problem (chosen ++ v ∷ []) (i + 1) (drop (suc i) numbers))) (not_offered problem chosen (get_or numbers i 0) out)
 
--- what is chosen with one number more
-abbrev next_chosen : List (List Constraint) → List ℕ → ℕ → List ℕ
-next_chosen problem chosen n = chosen ++ slice_index (choice problem chosen) n ∷ []
-
 pub walk_goes : (problem other : List (List Constraint)) (chosen numbers : List ℕ) (i : ℕ) → other ≡ problem → i < length numbers → nat_lt (get_or numbers i 0) (length (choice other chosen)) ≡ true → walk_fault problem chosen i (drop i numbers) ≡ walk_fault problem (chosen ++ slice_index (choice other chosen) (get_or numbers i 0) ∷ []) (i + 1) (drop (i + 1) numbers)
 walk_goes problem other chosen numbers i same h e =
     let n = get_or numbers i 0 in

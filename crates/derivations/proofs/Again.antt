@@ -177,12 +177,12 @@ module _ {A : Type 0} (words : List ℕ) (read : List ℕ → Result A LineFault
 
 -- ---- the first line and the last
 
-abbrev kind_line : Kind → List ℕ
+abbrev pub kind_line : Kind → List ℕ
 kind_line kinds.Chosen = codes "certificate 1 chosen"
 kind_line kinds.Refused = codes "certificate 1 refused"
 kind_line kinds.Undecided = codes "certificate 1 undecided"
 
-abbrev kind_word : Kind → List ℕ
+abbrev pub kind_word : Kind → List ℕ
 kind_word kinds.Chosen = codes "chosen\n"
 kind_word kinds.Refused = codes "refused\n"
 kind_word kinds.Undecided = codes "undecided\n"
@@ -268,7 +268,7 @@ four d j f e =
     ∙ sym (append_assoc (d ++ 10 ∷ []) j (f ++ e))
     ∙ sym (append_assoc (d ++ (10 ∷ []) ++ j) f e)
 
-whole_text_is : (k : Kind) (d j f e : List ℕ) → kind_line k ++ 10 ∷ ((codes "vars " ++ d) ++ 10 ∷ (j ++ (f ++ e))) ≡ codes "certificate 1 " ++ kind_word k ++ codes "vars" ++ token d ++ codes "\n" ++ j ++ f ++ e
+pub whole_text_is : (k : Kind) (d j f e : List ℕ) → kind_line k ++ 10 ∷ ((codes "vars " ++ d) ++ 10 ∷ (j ++ (f ++ e))) ≡ codes "certificate 1 " ++ kind_word k ++ codes "vars" ++ token d ++ codes "\n" ++ j ++ f ++ e
 whole_text_is kinds.Chosen d j f e = ap (λ (s : List ℕ). codes "certificate 1 chosen\nvars " ++ s) (four d j f e)
 whole_text_is kinds.Refused d j f e = ap (λ (s : List ℕ). codes "certificate 1 refused\nvars " ++ s) (four d j f e)
 whole_text_is kinds.Undecided d j f e = ap (λ (s : List ℕ). codes "certificate 1 undecided\nvars " ++ s) (four d j f e)

@@ -1,9 +1,8 @@
 -- What is read of a text is written so again, line by line.
-use Rattle.std.proofs.Common.{◌≡◌, ◌+◌, ◌<◌, ◌≤◌, ◌==◌, ◌^◌, ℕ, List, [], ◌∷◌, ◌++◌, Option, Result, Ok, Err, Bool, true, false, Some, None, cond, length, refl, sym, ap, ◌∙◌, arith, inl, inr, append_assoc, append-nil}
+use Rattle.std.proofs.Common.{◌≡◌, ◌+◌, ℕ, List, [], ◌∷◌, ◌++◌, Option, Result, Ok, Err, Bool, true, false, Some, None, cond, length, refl, sym, ap, ◌∙◌, append_assoc}
 use Rattle.std.specs.Prelude.{codes, nat_eq, is_some}
 use Rattle.std.specs.Fmt.{decimal}
 use Rattle.std.specs.Cmp.Lexicographic.{pointwise}
-use Rattle.std.proofs.lemmas.Bool.{cases_Bool}
 use Rattle.op_constraints.specs.declared.Lit.{Lit}
 use Rattle.derivations.specs.declared.Hint.{Hint}
 use Rattle.derivations.specs.declared.Lemma.{Lemma}
@@ -17,9 +16,8 @@ use Rattle.derivations.specs.declared.reading.tokens.LineFault.TheVariants.{Form
 use Rattle.derivations.specs.declared.reading.lines.Kind.{Kind}
 use Rattle.derivations.specs.declared.reading.lines.Kind.TheVariants as kinds
 use Rattle.derivations.specs.Text.{joined, token, clause_text, lemma_line, step_line, finding_word, finding_lines, certificate_text}
-use Rattle.derivations.specs.Reading.{cut, behind, parts, number, where_there, made, both, spaced, clause, refutation, lemma, candidate, step_text, step, whole, vars, walk, word, end, at, and_then, line_at, line, with_first, item, lines_after, lines, chosen, finding, nothing, ended, body, certificate, certificate_of}
+use Rattle.derivations.specs.Reading.{cut, behind, parts, number, made, both, spaced, clause, refutation, lemma, candidate, step_text, step, whole, vars, walk, word, end, at, and_then, line_at, line, with_first, item, lines_after, lines, chosen, finding, nothing, ended, body, certificate, certificate_of}
 use Rattle.derivations.proofs.Pieces.{joined_parts, cut_is, behind_is, same_text}
-use Rattle.derivations.proofs.Parts.{parts_there, HasFirst}
 use Rattle.derivations.proofs.Written.{both_is, made_is, there_is, number_is, spaced_is, clause_is, tail_is}
 
 -- ---- each line

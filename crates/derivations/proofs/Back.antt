@@ -1,6 +1,6 @@
 -- The text that is written of a certificate is read as it, line by line.
-use Rattle.std.proofs.Common.{◌≡◌, ◌+◌, ◌<◌, ◌==◌, ◌^◌, ℕ, List, [], ◌∷◌, ◌++◌, Option, Result, Ok, Err, Bool, true, false, Some, None, cond, length, refl, sym, ap, subst, ◌∙◌, append_assoc}
-use Rattle.std.specs.Prelude.{codes, is_some, not}
+use Rattle.std.proofs.Common.{◌≡◌, ◌+◌, ℕ, List, [], ◌∷◌, ◌++◌, Result, Ok, true, false, Some, length, refl, sym, ap, subst, ◌∙◌, append_assoc}
+use Rattle.std.specs.Prelude.{codes, is_some}
 use Rattle.std.specs.Fmt.{decimal}
 use Rattle.std.specs.List.{AllByRecursion}
 use Rattle.derivations.specs.declared.Lemma.{Lemma}
@@ -14,12 +14,12 @@ use Rattle.derivations.specs.declared.reading.lines.Kind.{Kind}
 use Rattle.derivations.specs.declared.reading.lines.Kind.TheVariants as kinds
 use Rattle.derivations.specs.Text.{joined, token, clause_text, lemma_line, step_line, finding_word, finding_lines, certificate_text}
 use Rattle.derivations.specs.Fits.{NumberFits, LemmaFits, StepFits, ClauseFits, FindingFits, CertificateFits}
-use Rattle.derivations.specs.Reading.{behind, parts, number, lemma, step, whole, vars, walk, word, end, at, and_then, line_at, line, with_first, item, lines_after, lines, chosen, finding, nothing, ended, body, certificate, certificate_of}
+use Rattle.derivations.specs.Reading.{behind, parts, lemma, step, whole, vars, walk, word, and_then, line, item, lines, chosen, finding, body, certificate_of}
 use Rattle.derivations.proofs.Parts.{line_there}
 use Rattle.derivations.proofs.Rows.{one_line}
 use Rattle.derivations.proofs.Again.{kind_line, kind_word, whole_text_is}
 use Rattle.derivations.proofs.Apart.{lacks, lacks-append, decimal_lacks, parts_first}
-use Rattle.derivations.proofs.Shown.{IsOutside, line_feed, spaced_lacks, clause_lacks, lemma_shown, lemma_back, whole_shown, whole_back, vars_back, walk_shown, walk_back, step_shown, step_back}
+use Rattle.derivations.proofs.Shown.{line_feed, spaced_lacks, clause_lacks, lemma_shown, lemma_back, whole_shown, whole_back, vars_back, walk_shown, walk_back, step_shown, step_back}
 
 -- what a line is read as, and the text's parts behind it
 abbrev Line : Type 0 → Type 0

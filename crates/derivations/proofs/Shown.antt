@@ -1,5 +1,5 @@
 -- What is written of an item is read as it, and so is a line.
-use Rattle.std.proofs.Common.{◌≡◌, ◌+◌, ◌<◌, ◌==◌, ◌^◌, ℕ, List, [], ◌∷◌, ◌++◌, Option, Result, Ok, Err, Bool, true, false, Some, None, cond, refl, sym, ap, ◌∙◌, append_assoc, append-nil}
+use Rattle.std.proofs.Common.{◌≡◌, ◌<◌, ◌==◌, ◌^◌, ℕ, List, [], ◌∷◌, ◌++◌, Result, Ok, Bool, true, false, cond, refl, sym, ap, ◌∙◌, append_assoc, append-nil}
 use Rattle.std.specs.Prelude.{not, codes}
 use Rattle.std.specs.Fmt.{decimal}
 use Rattle.std.specs.Char.{is_ascii_digit}
@@ -12,9 +12,9 @@ use Rattle.derivations.specs.declared.Lemma.{Lemma}
 use Rattle.derivations.specs.declared.Refutation.{Refutation}
 use Rattle.derivations.specs.Text.{joined, token, lit_text, later_member, members_text, hint_text, clause_text}
 use Rattle.derivations.specs.Fits.{NumberFits, LitFits, HintFits, ClauseFits, LemmaFits, StepFits}
-use Rattle.derivations.specs.Reading.{cut, behind, before, parts, number, each, both, made, where_there, lit, members, place, given, hint, spaced, lits, clause, refutation, lemma, candidate, step_text, step, whole, vars, walk}
+use Rattle.derivations.specs.Reading.{cut, number, lit, members, place, given, hint, spaced, lits, clause, refutation, lemma, candidate, step, whole, vars, walk}
 use Rattle.derivations.specs.declared.reading.tokens.LineFault.{LineFault}
-use Rattle.derivations.proofs.Apart.{lacks, lacks-append, joined_lacks, cut_back, cut_none, behind_back, before_back, decimal_lacks, number_back, list_back}
+use Rattle.derivations.proofs.Apart.{lacks, lacks-append, joined_lacks, cut_back, cut_none, before_back, decimal_lacks, number_back, list_back}
 
 -- a byte that stands in no item
 pub record IsOutside (byte : ℕ) : Type 0 where

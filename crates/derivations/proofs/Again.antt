@@ -105,11 +105,11 @@ unlined_from text (first ∷ texts) h = tail_is 10 text (first ++ joined (λ par
 unlined_parts : (text : List ℕ) → text ≡ unlined (parts 10 text)
 unlined_parts text = unlined_from text (parts 10 text) (joined_parts 10 text)
 
-then_is : {A B : Type 0} (a : Result A CertText) (next : A → Result B CertText) (z : B) → and_then a next ≡ Ok z → (x : A) × (a ≡ Ok x) × (next x ≡ Ok z)
+pub then_is : {A B : Type 0} (a : Result A CertText) (next : A → Result B CertText) (z : B) → and_then a next ≡ Ok z → (x : A) × (a ≡ Ok x) × (next x ≡ Ok z)
 then_is (Ok x) next z h = (x, refl, h)
 then_is (Err fault) next z h = absurd cc
 
-at_is : {A : Type 0} (n : ℕ) (r : Result A LineFault) (x : A) → at n r ≡ Ok x → r ≡ Ok x
+pub at_is : {A : Type 0} (n : ℕ) (r : Result A LineFault) (x : A) → at n r ≡ Ok x → r ≡ Ok x
 at_is n (Ok y) x h = cc
 at_is n (Err Form) x h = absurd cc
 at_is n (Err Number) x h = absurd cc
@@ -118,7 +118,7 @@ at_is n (Err Memory) x h = absurd cc
 abbrev ok_text : {A : Type 0} → A → Result A CertText
 ok_text x = Ok x
 
-ok_is : {A : Type 0} (x y : A) → ok_text x ≡ ok_text y → x ≡ y
+pub ok_is : {A : Type 0} (x y : A) → ok_text x ≡ ok_text y → x ≡ y
 ok_is x y h = cc
 
 line_at_is : (texts : List (List ℕ)) (next : List ℕ × List (List ℕ)) → line_at texts ≡ Ok next → unlined texts ≡ next.0 ++ 10 ∷ unlined next.1
@@ -127,7 +127,7 @@ line_at_is (last ∷ []) next h = absurd cc
 line_at_is (text ∷ after ∷ more) next h = ap (λ (n : List ℕ × List (List ℕ)). n.0 ++ 10 ∷ unlined n.1) (ok_is (text, after ∷ more) next h)
 
 -- a line that was read, and the text behind it
-line_is : {A : Type 0} (read : List ℕ → Result A LineFault) (n : ℕ) (texts : List (List ℕ)) (x : A × List (List ℕ)) → line read n texts ≡ Ok x
+pub line_is : {A : Type 0} (read : List ℕ → Result A LineFault) (n : ℕ) (texts : List (List ℕ)) (x : A × List (List ℕ)) → line read n texts ≡ Ok x
     → (text : List ℕ) × (read text ≡ Ok x.0) × (unlined texts ≡ text ++ 10 ∷ unlined x.1)
 line_is {A} read n texts x h =
     let a = then_is (line_at texts) (λ next. and_then (at n (read next.0)) (λ y. Ok (y, next.1))) x h in
@@ -135,7 +135,7 @@ line_is {A} read n texts x h =
     let e : ◌≡◌ {A = A × List (List ℕ)} (b.0, a.0.1) x = ok_is (b.0, a.0.1) x b.2 in
     (a.0.0, at_is n (read a.0.0) b.0 b.1 ∙ ap (λ (p : A × List (List ℕ)). Ok p.0) e, line_at_is texts a.0 a.1 ∙ ap (λ (p : A × List (List ℕ)). a.0.0 ++ 10 ∷ unlined p.1) e)
 
-with_first_is : {A B : Type 0} (y : A) (others : Result (List A × B) CertText) (x : List A × B) → with_first y others ≡ Ok x → (o : List A × B) × (others ≡ Ok o) × ((y ∷ o.0, o.1) ≡ x)
+pub with_first_is : {A B : Type 0} (y : A) (others : Result (List A × B) CertText) (x : List A × B) → with_first y others ≡ Ok x → (o : List A × B) × (others ≡ Ok o) × ((y ∷ o.0, o.1) ≡ x)
 with_first_is y (Ok o) x h = (o, refl, ok_is (y ∷ o.0, o.1) x h)
 with_first_is y (Err fault) x h = absurd cc
 
@@ -271,7 +271,7 @@ whole_text_is kinds.Chosen d j f e = ap (λ (s : List ℕ). codes "certificate 1
 whole_text_is kinds.Refused d j f e = ap (λ (s : List ℕ). codes "certificate 1 refused\nvars " ++ s) (four d j f e)
 whole_text_is kinds.Undecided d j f e = ap (λ (s : List ℕ). codes "certificate 1 undecided\nvars " ++ s) (four d j f e)
 
-abbrev made_of : ℕ → List Lemma → Finding → Certificate
+abbrev pub made_of : ℕ → List Lemma → Finding → Certificate
 made_of v ls f = record { vars = v; log = record { lemmas = ls }; finding = f }
 
 body_is : (k : Kind) (v : ℕ) (texts : List (List ℕ)) (c : Certificate) → body k v texts ≡ Ok c

@@ -12,3 +12,4 @@ pub mod Bounded
 pub mod Apart
 pub mod Shown
 pub mod Back
+pub mod Fitting

@@ -36,7 +36,7 @@ there_is (Some x) read z h = (x, refl, h)
 
 -- ---- numbers
 
-number_parts : (some digits plain small : Bool) (v n : ℕ) → ◌≡◌ {A = Result ℕ LineFault} (cond (some || not digits) (Err Form) (cond (plain && small) (Ok v) (Err Number))) (Ok n)
+pub number_parts : (some digits plain small : Bool) (v n : ℕ) → ◌≡◌ {A = Result ℕ LineFault} (cond (some || not digits) (Err Form) (cond (plain && small) (Ok v) (Err Number))) (Ok n)
     → (some ≡ false) × (digits ≡ true) × (plain ≡ true) × (small ≡ true) × (v ≡ n)
 number_parts true digits plain small v n h = absurd cc
 number_parts false false plain small v n h = absurd cc

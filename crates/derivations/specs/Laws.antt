@@ -83,9 +83,9 @@ AcceptedIsRight = (problem : List (List Constraint)) (certificate : Certificate)
 abbrev pub ReadIsWritten : Type 0
 ReadIsWritten = (text : List ℕ) (certificate : Certificate) → certificate_of text ≡ Ok certificate → text ≡ certificate_text certificate
 
--- the spelling of a certificate is read as the certificate, where its numbers fit 32 bits
+-- the spelling of a certificate is read as the certificate exactly where its numbers fit 32 bits
 abbrev pub WrittenIsRead : Type 0
-WrittenIsRead = (certificate : Certificate) → CertificateFits certificate → certificate_of (certificate_text certificate) ≡ Ok certificate
+WrittenIsRead = (certificate : Certificate) → CertificateFits certificate ↔ (certificate_of (certificate_text certificate) ≡ Ok certificate)
 
 -- the walk's numbers and the refutations of a finding
 abbrev pub entries : Finding → ℕ

@@ -36,8 +36,8 @@ pub fn read_is_written()
     ensures { ReadIsWritten }
 {}
 
-/// The spelling of a certificate is read as that certificate. The numbers of each certificate in memory fit 32 bits, as
-/// the law asks.
+/// The spelling of a certificate is read as that certificate exactly where its numbers fit 32 bits, as those of each
+/// certificate in memory do.
 pub fn written_is_read()
     ensures { WrittenIsRead }
 {}

@@ -1,10 +1,8 @@
 -- Wanted pairs beside the pairs that are given.
-use Rattle.std.proofs.Common.{◌≡◌, ℕ, zero, suc, ◌+◌, ◌-◌, ◌≤◌, ◌<◌, Bool, true, false, cond, List, [], ◌∷◌, ◌++◌, length, map, drop, refl, sym, ap, ◌∙◌, subst, arith, Option, Some, None, get_or}
+use Rattle.std.proofs.Common.{◌≡◌, ℕ, zero, suc, ◌+◌, ◌≤◌, ◌<◌, true, false, List, [], ◌∷◌, ◌++◌, length, map, drop, refl, sym, ap, ◌∙◌, arith, Some, get_or}
 use Rattle.std.specs.List.{range_with_len}
 use Rattle.std.proofs.lemmas.Bool.{cond-true, cond-false}
 use Rattle.derivations.specs.declared.Refutation.{Refutation}
-use Rattle.derivations.specs.Accepted.{pairs_from}
-use Rattle.derivation_check.specs.declared.CertFault.{CertFault}
 use Rattle.derivation_check.specs.declared.CertFault.TheVariants.{Missing, Extra}
 use Rattle.derivation_check.specs.Faults.{is_pair, is_next, pairs_fault, pair_of}
 

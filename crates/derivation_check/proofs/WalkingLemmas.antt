@@ -1,20 +1,20 @@
 -- One number more of a walk, and the refutations of one choice.
-use Rattle.std.proofs.Common.{◌≡◌, ℕ, zero, suc, ◌+◌, ◌-◌, ◌≤◌, ◌<◌, ◌==◌, nat_lt, Bool, true, false, not, cond, ◌&&◌, ◌||◌, List, [], ◌∷◌, ◌++◌, length, map, take, drop, refl, sym, ap, ◌∙◌, subst, arith, inl, inr, Option, Some, None, get_or, slice_get, slice_index, drop-cons, add-one}
+use Rattle.std.proofs.Common.{◌≡◌, ℕ, zero, suc, ◌+◌, ◌-◌, ◌≤◌, ◌<◌, nat_lt, true, false, List, [], ◌∷◌, ◌++◌, length, map, take, drop, refl, sym, ap, ◌∙◌, subst, arith, inl, inr, Option, Some, None, get_or, slice_get, slice_index, drop-cons, add-one}
 use Rattle.std.specs.Option.{option_and_then, option_map}
-use Rattle.std.specs.List.{list_all, AllByRecursion, range_with_len}
+use Rattle.std.specs.List.{AllByRecursion, range_with_len}
 use Rattle.std.proofs.lemmas.Bool.{ltb-true, ltb-false, cond-true, cond-false, cases_Bool}
 use Rattle.std.proofs.lemmas.List.{take-append-drop, drop-drop}
 use Rattle.op_constraints.specs.declared.Lit.{Lit}
 use Rattle.op_constraints.specs.declared.Constraint.{Constraint}
-use Rattle.op_constraints.specs.Walks.{is_among, waiting, member, choice, first_of, mandatory, walk_from, walk, taken, Walked}
+use Rattle.op_constraints.specs.Walks.{is_among, waiting, member, choice, first_of, walk_from, walk}
 use Rattle.op_constraints.proofs.WalkLaws.{under}
 use Rattle.op_constraints.proofs.Steps.{walk-push}
 use Rattle.derivations.specs.declared.Refutation.{Refutation}
-use Rattle.derivations.specs.Accepted.{denies, pairs_from}
+use Rattle.derivations.specs.Accepted.{pairs_from}
 use Rattle.derivation_check.specs.declared.CertFault.{CertFault}
 use Rattle.derivation_check.specs.declared.CertFault.TheVariants.{Walk, Denies}
 use Rattle.derivation_check.specs.Faults.{after_member, walk_fault, pair_of, deniable, all_deny, denies_fault}
-use Rattle.derivation_check.specs.Denials.{denies_with, denied_by, denied_at}
+use Rattle.derivation_check.specs.Denials.{denied_by, denied_at}
 
 pub member_get : (lists : List (List ℕ)) (n : ℕ) → member lists n ≡ slice_get (first_of lists) n
 member_get [] n = refl

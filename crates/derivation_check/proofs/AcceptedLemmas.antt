@@ -1,12 +1,12 @@
 -- There is no first fault exactly where the certificate is accepted.
-use Rattle.std.proofs.Common.{◌≡◌, ◌↔◌, ℕ, zero, suc, ◌+◌, ◌==◌, Bool, true, false, cond, ◌&&◌, List, [], ◌∷◌, ◌++◌, length, map, take, refl, sym, ap, ◌∙◌, subst, arith, inl, inr, Option, Some, None, eq-eqb, slice_get, unwrap_or}
+use Rattle.std.proofs.Common.{◌≡◌, ℕ, zero, suc, ◌+◌, ◌==◌, Bool, true, false, cond, List, [], ◌∷◌, ◌++◌, length, map, take, refl, sym, ap, ◌∙◌, subst, arith, inl, inr, Option, Some, None, eq-eqb, slice_get, unwrap_or}
 use Rattle.std.specs.Option.{option_and_then, option_map, option_or}
 use Rattle.std.specs.List.{list_all, AllByRecursion}
 use Rattle.std.proofs.lemmas.Bool.{cases_Bool, and_parts, and_from, eqb-true, cond-true}
 use Rattle.op_constraints.specs.declared.Lit.{Lit}
 use Rattle.op_constraints.specs.declared.Constraint.{Constraint}
 use Rattle.op_constraints.specs.Meets.{constraint_at, is_true_of, Meets}
-use Rattle.op_constraints.specs.Walks.{is_among, mandatory, waiting, member, walk_from, walk, Succeeds}
+use Rattle.op_constraints.specs.Walks.{is_among, mandatory, waiting, member, walk_from, walk}
 use Rattle.op_constraints.proofs.WalkLaws.{under}
 use Rattle.derivations.specs.declared.Lemma.{Lemma as LemmaOf}
 use Rattle.derivations.specs.declared.Refutation.{Refutation}

@@ -1,5 +1,5 @@
 -- What the checker's answers mean.
-use Rattle.std.proofs.Common.{◌≡◌, ◌↔◌, ℕ, Bool, true, false, List, [], refl, sym, ap, ◌∙◌, subst, Option, Some, None, Result, Ok, Err, rules}
+use Rattle.std.proofs.Common.{◌≡◌, ◌↔◌, ℕ, Bool, true, false, List, [], refl, sym, ◌∙◌, subst, Option, Some, None, Result}
 use Rattle.std.specs.Prelude.{IsOk, OnOk}
 use Rattle.op_constraints.specs.declared.Constraint.{Constraint}
 use Rattle.op_constraints.specs.Meets.{Meets}

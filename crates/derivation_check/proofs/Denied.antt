@@ -1,15 +1,14 @@
 -- What is marked when a clause is denied, and that each clause that a hint names is of marked variables.
-use Rattle.std.proofs.Common.{◌≡◌, ℕ, zero, suc, ◌+◌, ◌≤◌, ◌<◌, ◌==◌, Bool, true, false, not, cond, ◌&&◌, ◌||◌, List, [], ◌∷◌, length, map, take, refl, sym, ap, ◌∙◌, subst, arith, inl, inr, Option, Some, None, Result, Ok, Err, IsTrue, set, get_or, get_or-set_other, get_or-set_same, length-set, eqb, nat_lt, eq-eqb, ne_eqb, is_none, replicate, slice_get}
+use Rattle.std.proofs.Common.{◌≡◌, ℕ, zero, suc, ◌+◌, ◌<◌, ◌==◌, Bool, true, false, not, cond, ◌&&◌, ◌||◌, List, [], ◌∷◌, length, map, take, refl, sym, ap, ◌∙◌, subst, arith, inl, inr, Option, Some, None, Ok, Err, IsTrue, set, get_or, get_or-set_other, get_or-set_same, length-set, nat_lt, eq-eqb, ne_eqb, is_none, replicate, slice_get}
 use Rattle.std.specs.Option.{option_and_then, ok_or}
-use Rattle.std.specs.List.{list_any, list_all, AllByRecursion}
+use Rattle.std.specs.List.{list_all, AllByRecursion}
 use Rattle.std.proofs.lemmas.Bool.{cases_Bool, cases_eq, and_parts, ltb-true, eqb-true, or_cases, cond-true, cond-false}
 use Rattle.std.proofs.lemmas.List.{length-replicate}
-use mathlib.Core.Bool.{beq}
 use Rattle.op_constraints.proofs.WalkLaws.{under}
 use Rattle.op_constraints.specs.declared.Lit.{Lit}
 use Rattle.op_constraints.specs.declared.Constraint.{Constraint}
 use Rattle.op_constraints.specs.declared.Constraint.TheVariants.{Mandatory, Prohibited, Dependency, Conflict, AtMost}
-use Rattle.op_constraints.specs.Meets.{constraint_at, constraints_of, IsWithin, IsClosed}
+use Rattle.op_constraints.specs.Meets.{constraint_at, IsWithin, IsClosed}
 use Rattle.op_constraints.specs.Walks.{is_among}
 use Rattle.derivations.specs.declared.Hint.{Hint}
 use Rattle.derivations.specs.declared.Lemma.{Lemma}

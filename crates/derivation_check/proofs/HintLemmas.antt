@@ -1,14 +1,12 @@
 -- The clause of an earlier lemma.
-use Rattle.std.proofs.Common.{◌≡◌, ℕ, zero, suc, ◌+◌, ◌≤◌, ◌<◌, List, [], ◌∷◌, length, take, refl, sym, ap, ◌∙◌, arith, Option, Some, None, Bool, Result, Ok, Err, get_or, slice_get}
+use Rattle.std.proofs.Common.{◌≡◌, ℕ, zero, suc, ◌≤◌, ◌<◌, List, [], ◌∷◌, length, take, refl, sym, ap, arith, Option, Some, None, Bool, Ok, Err, get_or, slice_get}
 use Rattle.std.specs.Option.{ok_or}
 use Rattle.op_constraints.specs.declared.Lit.{Lit}
 use Rattle.op_constraints.specs.declared.Constraint.{Constraint}
 use Rattle.derivations.specs.declared.Lemma.{Lemma}
 use Rattle.derivations.specs.declared.Hint.TheVariants.{Lemma as LemmaHint}
-use Rattle.derivations.specs.declared.LogCause.{LogCause}
 use Rattle.derivations.specs.declared.LogCause.TheVariants.{NoSuchHint}
 use Rattle.derivations.specs.Follows.{clause_of, clauses}
-use Rattle.derivation_check.specs.declared.scan.Left.{Left}
 use Rattle.derivation_check.specs.declared.scan.Left.TheVariants.{Nothing}
 use Rattle.derivation_check.specs.Scan.{scanned, left_of}
 

@@ -1,10 +1,9 @@
 -- One lemma more of a log.
-use Rattle.std.proofs.Common.{◌≡◌, ℕ, zero, suc, ◌+◌, ◌<◌, Bool, true, false, cond, List, [], ◌∷◌, ◌++◌, length, map, take, drop, refl, sym, ap, ◌∙◌, subst, arith, Option, Some, None, IsTrue, get_or, drop-cons, take-suc, add-one}
+use Rattle.std.proofs.Common.{◌≡◌, ℕ, zero, suc, ◌+◌, ◌<◌, Bool, true, false, cond, List, [], ◌∷◌, ◌++◌, length, map, take, drop, refl, sym, ap, ◌∙◌, subst, arith, Option, Some, None, IsTrue, get_or, drop-cons, add-one}
 use Rattle.std.specs.Option.{option_map, option_or}
 use Rattle.std.specs.List.{AllByRecursion}
 use Rattle.op_constraints.specs.declared.Lit.{Lit}
 use Rattle.op_constraints.specs.declared.Constraint.{Constraint}
-use Rattle.derivations.specs.declared.Hint.{Hint}
 use Rattle.derivations.specs.declared.Lemma.{Lemma}
 use Rattle.derivations.specs.declared.LogCause.{LogCause}
 use Rattle.derivations.specs.declared.LogCause.TheVariants.{BadClause}

@@ -1,10 +1,8 @@
 -- Wanted pairs beside the pairs that are given.
-use Rattle.std.proofs.Common.{◌≡◌, ℕ, zero, suc, ◌+◌, ◌-◌, ◌≤◌, ◌<◌, Bool, true, false, cond, List, [], ◌∷◌, ◌++◌, length, map, drop, refl, sym, ap, ◌∙◌, subst, arith, Option, Some, None, get_or}
+use Rattle.std.proofs.Common.{◌≡◌, ℕ, zero, suc, ◌+◌, ◌≤◌, ◌<◌, true, false, List, [], ◌∷◌, ◌++◌, length, map, drop, refl, sym, ap, ◌∙◌, arith, Some, get_or}
 use Rattle.std.specs.List.{range_with_len}
 use Rattle.std.proofs.lemmas.Bool.{cond-true, cond-false}
 use Rattle.derivations.specs.declared.Refutation.{Refutation}
-use Rattle.derivations.specs.Accepted.{pairs_from}
-use Rattle.derivation_check.specs.declared.CertFault.{CertFault}
 use Rattle.derivation_check.specs.declared.CertFault.TheVariants.{Missing, Extra}
 use Rattle.derivation_check.specs.Faults.{is_pair, is_next, pairs_fault, pair_of}
 
@@ -12,12 +10,6 @@ pub pairs_at : (steps : List (ℕ × ℕ × Refutation)) (k : ℕ) (x : ℕ × �
 pairs_at [] k x h e = absurd (omega arith)
 pairs_at (s ∷ ss) zero x h e = ap (λ y. pair_of y ∷ map pair_of ss) (sym e)
 pairs_at (s ∷ ss) (suc k) x h e = pairs_at ss k x (omega arith) e
-
-pub pairs_end : (steps : List (ℕ × ℕ × Refutation)) (k : ℕ) → length steps ≤ k → drop k (map pair_of steps) ≡ []
-pairs_end [] zero h = refl
-pairs_end [] (suc k) h = refl
-pairs_end (s ∷ ss) zero h = absurd (omega arith)
-pairs_end (s ∷ ss) (suc k) h = pairs_end ss k (omega arith)
 
 not_next : (k : ℕ) (pair : ℕ × ℕ) (wanted given : List (ℕ × ℕ)) → is_next given pair ≡ false → pairs_fault k (pair ∷ wanted) given ≡ Some (Missing pair.0 pair.1)
 not_next k pair wanted [] e = refl

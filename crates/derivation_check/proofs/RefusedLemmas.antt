@@ -1,5 +1,5 @@
 -- A refusal's refutation, read against the set of the mandatory variables.
-use Rattle.std.proofs.Common.{◌≡◌, ℕ, Bool, true, false, cond, List, sym, ap, ◌∙◌, Option, Some, None}
+use Rattle.std.proofs.Common.{◌≡◌, ℕ, Bool, true, false, List, sym, ap, ◌∙◌, Option, Some}
 use Rattle.std.specs.Option.{option_map}
 use Rattle.std.specs.List.{list_all}
 use Rattle.std.proofs.lemmas.Bool.{cond-true, cond-false}
@@ -11,7 +11,6 @@ use Rattle.derivations.specs.declared.LogCause.{LogCause}
 use Rattle.derivations.specs.declared.Refutation.{Refutation}
 use Rattle.derivations.specs.Accepted.{denies}
 use Rattle.derivations.specs.Follows.{clauses, fault_of}
-use Rattle.derivation_check.specs.declared.CertFault.{CertFault}
 use Rattle.derivation_check.specs.declared.CertFault.TheVariants.{WholeDenies, WholeStep}
 use Rattle.derivation_check.specs.Denials.{denies_in}
 use Rattle.derivation_check.specs.Faults.{refused_fault}

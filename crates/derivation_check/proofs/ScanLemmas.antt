@@ -1,8 +1,8 @@
 -- Hints read by marks give the answers of hints read by a trail.
-use Rattle.std.proofs.Common.{◌≡◌, ℕ, zero, suc, ◌+◌, ◌≤◌, ◌<◌, ◌==◌, Bool, true, false, not, cond, ◌&&◌, ◌||◌, List, [], ◌∷◌, length, map, drop, take, refl, sym, ap, ◌∙◌, subst, arith, inl, inr, Option, Some, None, Result, Ok, Err, set, get_or, get_or-set_other, get_or-set_same, length-set, drop-cons, eqb, eq-eqb, ne_eqb}
+use Rattle.std.proofs.Common.{◌≡◌, ℕ, suc, ◌+◌, ◌<◌, Bool, true, false, not, cond, ◌||◌, List, [], ◌∷◌, length, drop, refl, sym, ap, ◌∙◌, subst, arith, inl, inr, Option, Some, None, Result, Ok, Err, set, get_or, get_or-set_other, get_or-set_same, length-set, drop-cons, eqb, eq-eqb, ne_eqb}
 use Rattle.std.specs.Option.{option_and_then}
-use Rattle.std.specs.List.{list_any, list_all, filter}
-use Rattle.std.proofs.lemmas.Bool.{cases_Bool, cases_eq, cond-true, cond-false, eqb-false}
+use Rattle.std.specs.List.{list_all}
+use Rattle.std.proofs.lemmas.Bool.{cases_Bool, cases_eq}
 use Rattle.std.proofs.lemmas.List.{length-drop}
 use mathlib.Core.Bool.{beq}
 use Rattle.op_constraints.proofs.WalkLaws.{under}
@@ -12,10 +12,10 @@ use Rattle.derivations.specs.declared.Hint.{Hint}
 use Rattle.derivations.specs.declared.LogCause.{LogCause}
 use Rattle.derivations.specs.declared.LogCause.TheVariants.{HintNotUnit, NoConflict}
 use Rattle.derivations.specs.Clauses.{denial, is_same, is_in}
-use Rattle.derivations.specs.Follows.{clause_of, left, sole, forced, after_forced, unit_fault, is_nothing, last_fault, hints_fault, all_hints_fault}
+use Rattle.derivations.specs.Follows.{clause_of, left, sole, forced, after_forced, unit_fault, is_nothing, last_fault, hints_fault}
 use Rattle.derivation_check.specs.declared.scan.Left.{Left}
 use Rattle.derivation_check.specs.declared.scan.Left.TheVariants.{Nothing, Only, Several}
-use Rattle.derivation_check.specs.Scan.{says, is_said, joined, added, scanned, forced_by, is_conflict, left_of, last_answer, unit_answer, answer_from, answer}
+use Rattle.derivation_check.specs.Scan.{says, is_said, joined, scanned, forced_by, is_conflict, left_of, last_answer, unit_answer, answer_from, answer}
 
 -- the answer where the first hint is no clause, and where it isn't unit
 answer_err : (problem : List (List Constraint)) (earlier : List (List Lit)) (known : List (Option Bool)) (hint : Hint) (hints : List Hint) (cause : LogCause) → Err cause ≡ left_of known (clause_of problem earlier hint) → answer problem earlier known (hint ∷ hints) ≡ Some cause

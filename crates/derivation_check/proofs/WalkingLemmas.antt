@@ -1,20 +1,20 @@
 -- One number more of a walk, and the refutations of one choice.
-use Rattle.std.proofs.Common.{◌≡◌, ℕ, zero, suc, ◌+◌, ◌-◌, ◌≤◌, ◌<◌, ◌==◌, nat_lt, Bool, true, false, not, cond, ◌&&◌, ◌||◌, List, [], ◌∷◌, ◌++◌, length, map, take, drop, refl, sym, ap, ◌∙◌, subst, arith, inl, inr, Option, Some, None, get_or, slice_get, slice_index, drop-cons, add-one}
+use Rattle.std.proofs.Common.{◌≡◌, ℕ, zero, suc, ◌+◌, ◌-◌, ◌≤◌, ◌<◌, nat_lt, true, false, List, [], ◌∷◌, ◌++◌, length, map, take, drop, refl, sym, ap, ◌∙◌, subst, arith, inl, inr, Option, Some, None, get_or, slice_get, slice_index, drop-cons, add-one}
 use Rattle.std.specs.Option.{option_and_then, option_map}
-use Rattle.std.specs.List.{list_all, AllByRecursion, range_with_len}
+use Rattle.std.specs.List.{AllByRecursion, range_with_len}
 use Rattle.std.proofs.lemmas.Bool.{ltb-true, ltb-false, cond-true, cond-false, cases_Bool}
 use Rattle.std.proofs.lemmas.List.{take-append-drop, drop-drop}
 use Rattle.op_constraints.specs.declared.Lit.{Lit}
 use Rattle.op_constraints.specs.declared.Constraint.{Constraint}
-use Rattle.op_constraints.specs.Walks.{is_among, waiting, member, choice, first_of, mandatory, walk_from, walk, taken, Walked}
+use Rattle.op_constraints.specs.Walks.{is_among, waiting, member, choice, first_of, walk_from, walk}
 use Rattle.op_constraints.proofs.WalkLaws.{under}
 use Rattle.op_constraints.proofs.Steps.{walk-push}
 use Rattle.derivations.specs.declared.Refutation.{Refutation}
-use Rattle.derivations.specs.Accepted.{denies, pairs_from}
+use Rattle.derivations.specs.Accepted.{pairs_from}
 use Rattle.derivation_check.specs.declared.CertFault.{CertFault}
 use Rattle.derivation_check.specs.declared.CertFault.TheVariants.{Walk, Denies}
 use Rattle.derivation_check.specs.Faults.{after_member, walk_fault, pair_of, deniable, all_deny, denies_fault}
-use Rattle.derivation_check.specs.Denials.{denies_with, denied_by, denied_at}
+use Rattle.derivation_check.specs.Denials.{denied_by, denied_at}
 
 pub member_get : (lists : List (List ℕ)) (n : ℕ) → member lists n ≡ slice_get (first_of lists) n
 member_get [] n = refl
@@ -47,10 +47,6 @@ walk_fails problem other chosen numbers i same h e =
     let out : length (choice problem chosen) ≤ get_or numbers i 0 = ltb-false (get_or numbers i 0) (length (choice problem chosen)) (subst (λ (p : List (List Constraint)). nat_lt (get_or numbers i 0) (length (choice p chosen)) ≡ false) same e) in
     ap (λ ns. walk_fault problem chosen i ns) (drop-cons numbers i 0 h)
     ∙ ap (λ o. after_member o i (λ v. walk_fault problem (chosen ++ v ∷ []) (i + 1) (drop (suc i) numbers))) (not_offered problem chosen (get_or numbers i 0) out)
-
--- what is chosen with one number more
-abbrev next_chosen : List (List Constraint) → List ℕ → ℕ → List ℕ
-next_chosen problem chosen n = chosen ++ slice_index (choice problem chosen) n ∷ []
 
 pub walk_goes : (problem other : List (List Constraint)) (chosen numbers : List ℕ) (i : ℕ) → other ≡ problem → i < length numbers → nat_lt (get_or numbers i 0) (length (choice other chosen)) ≡ true → walk_fault problem chosen i (drop i numbers) ≡ walk_fault problem (chosen ++ slice_index (choice other chosen) (get_or numbers i 0) ∷ []) (i + 1) (drop (i + 1) numbers)
 walk_goes problem other chosen numbers i same h e =

@@ -1,5 +1,5 @@
 -- What refutations deny, read against the set of what is chosen.
-use Rattle.std.specs.Prelude.{ℕ, Bool, true, false, not, cond, ◌==◌, ◌&&◌, ◌||◌, List, [], ◌∷◌, Option, Some, None, slice_get}
+use Rattle.std.specs.Prelude.{ℕ, Bool, false, not, cond, ◌==◌, ◌&&◌, ◌||◌, List, [], ◌∷◌, Option, Some, None, slice_get}
 use Rattle.std.specs.List.{list_all}
 use Rattle.op_constraints.specs.declared.Lit.{Lit}
 use Rattle.derivations.specs.declared.Refutation.{Refutation}

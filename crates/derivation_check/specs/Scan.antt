@@ -1,5 +1,5 @@
 -- How a clause is read, literal by literal, against what is known.
-use Rattle.std.specs.Prelude.{◌≡◌, ℕ, Bool, true, false, not, cond, ◌&&◌, nat_lt, length, is_none, List, [], ◌∷◌, Option, Some, None, Result, Ok, Err, slice_index_or, slice_set}
+use Rattle.std.specs.Prelude.{Bool, true, false, not, cond, ◌&&◌, nat_lt, length, is_none, List, [], ◌∷◌, Option, Some, None, Result, Ok, Err, slice_index_or, slice_set}
 use mathlib.Core.Bool.{beq}
 use Rattle.op_constraints.specs.declared.Constraint.{Constraint}
 use Rattle.derivations.specs.declared.Hint.{Hint}

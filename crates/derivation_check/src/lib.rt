@@ -14,6 +14,8 @@ mod met;
 mod pairs;
 mod scan;
 mod steps;
+#[cfg(test)]
+mod tests;
 mod walking;
 
 pub use checker::Checker;

@@ -1,9 +1,8 @@
 -- What is read of a text is written so again, line by line.
-use Rattle.std.proofs.Common.{◌≡◌, ◌+◌, ◌<◌, ◌≤◌, ◌==◌, ◌^◌, ℕ, List, [], ◌∷◌, ◌++◌, Option, Result, Ok, Err, Bool, true, false, Some, None, cond, length, refl, sym, ap, ◌∙◌, arith, inl, inr, append_assoc, append-nil}
+use Rattle.std.proofs.Common.{◌≡◌, ◌+◌, ℕ, List, [], ◌∷◌, ◌++◌, Option, Result, Ok, Err, Bool, true, false, Some, None, cond, length, refl, sym, ap, ◌∙◌, append_assoc}
 use Rattle.std.specs.Prelude.{codes, nat_eq, is_some}
 use Rattle.std.specs.Fmt.{decimal}
 use Rattle.std.specs.Cmp.Lexicographic.{pointwise}
-use Rattle.std.proofs.lemmas.Bool.{cases_Bool}
 use Rattle.op_constraints.specs.declared.Lit.{Lit}
 use Rattle.derivations.specs.declared.Hint.{Hint}
 use Rattle.derivations.specs.declared.Lemma.{Lemma}
@@ -17,9 +16,8 @@ use Rattle.derivations.specs.declared.reading.tokens.LineFault.TheVariants.{Form
 use Rattle.derivations.specs.declared.reading.lines.Kind.{Kind}
 use Rattle.derivations.specs.declared.reading.lines.Kind.TheVariants as kinds
 use Rattle.derivations.specs.Text.{joined, token, clause_text, lemma_line, step_line, finding_word, finding_lines, certificate_text}
-use Rattle.derivations.specs.Reading.{cut, behind, parts, number, where_there, made, both, spaced, clause, refutation, lemma, candidate, step_text, step, whole, vars, walk, word, end, at, and_then, line_at, line, with_first, item, lines_after, lines, chosen, finding, nothing, ended, body, certificate, certificate_of}
+use Rattle.derivations.specs.Reading.{cut, behind, parts, number, made, both, spaced, clause, refutation, lemma, candidate, step_text, step, whole, vars, walk, word, end, at, and_then, line_at, line, with_first, item, lines_after, lines, chosen, finding, nothing, ended, body, certificate, certificate_of}
 use Rattle.derivations.proofs.Pieces.{joined_parts, cut_is, behind_is, same_text}
-use Rattle.derivations.proofs.Parts.{parts_there, HasFirst}
 use Rattle.derivations.proofs.Written.{both_is, made_is, there_is, number_is, spaced_is, clause_is, tail_is}
 
 -- ---- each line
@@ -107,11 +105,11 @@ unlined_from text (first ∷ texts) h = tail_is 10 text (first ++ joined (λ par
 unlined_parts : (text : List ℕ) → text ≡ unlined (parts 10 text)
 unlined_parts text = unlined_from text (parts 10 text) (joined_parts 10 text)
 
-then_is : {A B : Type 0} (a : Result A CertText) (next : A → Result B CertText) (z : B) → and_then a next ≡ Ok z → (x : A) × (a ≡ Ok x) × (next x ≡ Ok z)
+pub then_is : {A B : Type 0} (a : Result A CertText) (next : A → Result B CertText) (z : B) → and_then a next ≡ Ok z → (x : A) × (a ≡ Ok x) × (next x ≡ Ok z)
 then_is (Ok x) next z h = (x, refl, h)
 then_is (Err fault) next z h = absurd cc
 
-at_is : {A : Type 0} (n : ℕ) (r : Result A LineFault) (x : A) → at n r ≡ Ok x → r ≡ Ok x
+pub at_is : {A : Type 0} (n : ℕ) (r : Result A LineFault) (x : A) → at n r ≡ Ok x → r ≡ Ok x
 at_is n (Ok y) x h = cc
 at_is n (Err Form) x h = absurd cc
 at_is n (Err Number) x h = absurd cc
@@ -120,7 +118,7 @@ at_is n (Err Memory) x h = absurd cc
 abbrev ok_text : {A : Type 0} → A → Result A CertText
 ok_text x = Ok x
 
-ok_is : {A : Type 0} (x y : A) → ok_text x ≡ ok_text y → x ≡ y
+pub ok_is : {A : Type 0} (x y : A) → ok_text x ≡ ok_text y → x ≡ y
 ok_is x y h = cc
 
 line_at_is : (texts : List (List ℕ)) (next : List ℕ × List (List ℕ)) → line_at texts ≡ Ok next → unlined texts ≡ next.0 ++ 10 ∷ unlined next.1
@@ -129,7 +127,7 @@ line_at_is (last ∷ []) next h = absurd cc
 line_at_is (text ∷ after ∷ more) next h = ap (λ (n : List ℕ × List (List ℕ)). n.0 ++ 10 ∷ unlined n.1) (ok_is (text, after ∷ more) next h)
 
 -- a line that was read, and the text behind it
-line_is : {A : Type 0} (read : List ℕ → Result A LineFault) (n : ℕ) (texts : List (List ℕ)) (x : A × List (List ℕ)) → line read n texts ≡ Ok x
+pub line_is : {A : Type 0} (read : List ℕ → Result A LineFault) (n : ℕ) (texts : List (List ℕ)) (x : A × List (List ℕ)) → line read n texts ≡ Ok x
     → (text : List ℕ) × (read text ≡ Ok x.0) × (unlined texts ≡ text ++ 10 ∷ unlined x.1)
 line_is {A} read n texts x h =
     let a = then_is (line_at texts) (λ next. and_then (at n (read next.0)) (λ y. Ok (y, next.1))) x h in
@@ -137,7 +135,7 @@ line_is {A} read n texts x h =
     let e : ◌≡◌ {A = A × List (List ℕ)} (b.0, a.0.1) x = ok_is (b.0, a.0.1) x b.2 in
     (a.0.0, at_is n (read a.0.0) b.0 b.1 ∙ ap (λ (p : A × List (List ℕ)). Ok p.0) e, line_at_is texts a.0 a.1 ∙ ap (λ (p : A × List (List ℕ)). a.0.0 ++ 10 ∷ unlined p.1) e)
 
-with_first_is : {A B : Type 0} (y : A) (others : Result (List A × B) CertText) (x : List A × B) → with_first y others ≡ Ok x → (o : List A × B) × (others ≡ Ok o) × ((y ∷ o.0, o.1) ≡ x)
+pub with_first_is : {A B : Type 0} (y : A) (others : Result (List A × B) CertText) (x : List A × B) → with_first y others ≡ Ok x → (o : List A × B) × (others ≡ Ok o) × ((y ∷ o.0, o.1) ≡ x)
 with_first_is y (Ok o) x h = (o, refl, ok_is (y ∷ o.0, o.1) x h)
 with_first_is y (Err fault) x h = absurd cc
 
@@ -177,12 +175,12 @@ module _ {A : Type 0} (words : List ℕ) (read : List ℕ → Result A LineFault
 
 -- ---- the first line and the last
 
-abbrev kind_line : Kind → List ℕ
+abbrev pub kind_line : Kind → List ℕ
 kind_line kinds.Chosen = codes "certificate 1 chosen"
 kind_line kinds.Refused = codes "certificate 1 refused"
 kind_line kinds.Undecided = codes "certificate 1 undecided"
 
-abbrev kind_word : Kind → List ℕ
+abbrev pub kind_word : Kind → List ℕ
 kind_word kinds.Chosen = codes "chosen\n"
 kind_word kinds.Refused = codes "refused\n"
 kind_word kinds.Undecided = codes "undecided\n"
@@ -268,12 +266,12 @@ four d j f e =
     ∙ sym (append_assoc (d ++ 10 ∷ []) j (f ++ e))
     ∙ sym (append_assoc (d ++ (10 ∷ []) ++ j) f e)
 
-whole_text_is : (k : Kind) (d j f e : List ℕ) → kind_line k ++ 10 ∷ ((codes "vars " ++ d) ++ 10 ∷ (j ++ (f ++ e))) ≡ codes "certificate 1 " ++ kind_word k ++ codes "vars" ++ token d ++ codes "\n" ++ j ++ f ++ e
+pub whole_text_is : (k : Kind) (d j f e : List ℕ) → kind_line k ++ 10 ∷ ((codes "vars " ++ d) ++ 10 ∷ (j ++ (f ++ e))) ≡ codes "certificate 1 " ++ kind_word k ++ codes "vars" ++ token d ++ codes "\n" ++ j ++ f ++ e
 whole_text_is kinds.Chosen d j f e = ap (λ (s : List ℕ). codes "certificate 1 chosen\nvars " ++ s) (four d j f e)
 whole_text_is kinds.Refused d j f e = ap (λ (s : List ℕ). codes "certificate 1 refused\nvars " ++ s) (four d j f e)
 whole_text_is kinds.Undecided d j f e = ap (λ (s : List ℕ). codes "certificate 1 undecided\nvars " ++ s) (four d j f e)
 
-abbrev made_of : ℕ → List Lemma → Finding → Certificate
+abbrev pub made_of : ℕ → List Lemma → Finding → Certificate
 made_of v ls f = record { vars = v; log = record { lemmas = ls }; finding = f }
 
 body_is : (k : Kind) (v : ℕ) (texts : List (List ℕ)) (c : Certificate) → body k v texts ≡ Ok c

@@ -1,13 +1,13 @@
 -- An accepted certificate is right.
-use Rattle.std.proofs.Common.{◌≡◌, ℕ, zero, suc, ◌+◌, ◌≤◌, ◌<◌, Bool, true, false, not, cond, eqb, ◌&&◌, ◌||◌, List, [], ◌∷◌, ◌++◌, length, map, take, refl, sym, ap, ◌∙◌, subst, arith, inl, inr, ◌⊎◌, Option, Some, None, slice_get}
+use Rattle.std.proofs.Common.{◌≡◌, ℕ, zero, suc, ◌+◌, ◌≤◌, ◌<◌, Bool, true, false, not, cond, eqb, List, [], ◌∷◌, ◌++◌, map, take, refl, sym, ap, ◌∙◌, subst, arith, inl, inr, ◌⊎◌, Some, None, slice_get}
 use Rattle.std.specs.Option.{option_and_then}
 use Rattle.std.specs.List.{list_any, list_all, AllByRecursion, range_with_len}
-use Rattle.std.proofs.lemmas.Bool.{or_cases, or_left, or_from, and_parts, eqb-true, eq-eqb, both_ways, not_from_true, not-true, cases_Bool, cases_eq}
+use Rattle.std.proofs.lemmas.Bool.{or_cases, or_from, and_parts, eqb-true, both_ways, not_from_true, not-true, cases_Bool, cases_eq}
 use Rattle.op_constraints.specs.declared.Lit.{Lit}
 use Rattle.op_constraints.specs.declared.Constraint.{Constraint}
 use Rattle.op_constraints.specs.declared.Constraint.TheVariants.{Mandatory, Prohibited, Dependency, Conflict, AtMost}
-use Rattle.op_constraints.specs.Meets.{constraints_of, constraint_at, is_true_of, Meets}
-use Rattle.op_constraints.specs.Walks.{is_among, is_mandatory, mandatory_from, mandatory, waiting, member, walk_from, walk, Succeeds, IsBefore, IsBest}
+use Rattle.op_constraints.specs.Meets.{constraints_of, Meets}
+use Rattle.op_constraints.specs.Walks.{is_among, is_mandatory, mandatory_from, mandatory, waiting, member, walk_from, IsBefore, IsBest}
 use Rattle.op_constraints.proofs.WalkLaws.{under, chosen_stays, among_append_left, among_push}
 use Rattle.derivations.specs.declared.Lemma.{Lemma}
 use Rattle.derivations.specs.declared.Refutation.{Refutation}
@@ -15,9 +15,9 @@ use Rattle.derivations.specs.declared.Certificate.{Certificate}
 use Rattle.derivations.specs.declared.Finding.{Finding}
 use Rattle.derivations.specs.declared.Finding.TheVariants.{Chosen, Refused, Undecided}
 use Rattle.derivations.specs.Clauses.{lit_holds, clause_holds}
-use Rattle.derivations.specs.Follows.{clauses, Follows, LogFollows}
+use Rattle.derivations.specs.Follows.{clauses, LogFollows}
 use Rattle.derivations.specs.Accepted.{denies, Refutes, pairs_from, IsStep, IsShownBest, IsShown, IsAccepted}
-use Rattle.derivations.specs.Laws.{AllHold, IsRight}
+use Rattle.derivations.specs.Laws.{IsRight}
 use Rattle.derivations.proofs.Sound.{fault_of-holds, log_fault-hold}
 
 -- Membership by recursion

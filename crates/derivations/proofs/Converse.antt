@@ -1,7 +1,7 @@
 -- A constraint is true of a set of which its clauses hold, where an AtMost names each member once.
-use Rattle.std.proofs.Common.{◌≡◌, ◌↔◌, ℕ, zero, suc, ◌+◌, ◌≤◌, ◌<◌, ◌==◌, nat_le, Bool, true, false, not, cond, ◌&&◌, ◌||◌, List, [], ◌∷◌, length, map, take, refl, sym, ap, ◌∙◌, subst, arith, inl, inr, Option, Some, None, slice_get}
-use Rattle.std.specs.List.{list_any, list_all, filter, count_by, AllByRecursion}
-use Rattle.std.proofs.lemmas.Bool.{cases_Bool, or_cases, or_left, or_right, or_parts, or_from, and_parts, and_from, both_ways, not-true, not_from_true, not_from_false, true_from_ne_false, leb-false, eq-eqb, cond-true}
+use Rattle.std.proofs.Common.{◌≡◌, ◌↔◌, ℕ, zero, suc, ◌+◌, ◌<◌, ◌==◌, nat_le, Bool, true, false, not, ◌&&◌, ◌||◌, List, [], ◌∷◌, length, map, take, refl, sym, ap, ◌∙◌, subst, arith, inl, inr, Some, None, slice_get}
+use Rattle.std.specs.List.{list_all, filter, count_by, AllByRecursion}
+use Rattle.std.proofs.lemmas.Bool.{cases_Bool, or_left, or_right, or_parts, or_from, and_parts, and_from, both_ways, not-true, not_from_true, not_from_false, true_from_ne_false, leb-false, eq-eqb, cond-true}
 use Rattle.std.proofs.lemmas.List.{length-take-le}
 use Rattle.std.proofs.lemmas.List.Sums.{length-filter}
 use Rattle.op_constraints.specs.declared.Lit.{Lit}

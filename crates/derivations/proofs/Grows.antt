@@ -1,12 +1,12 @@
 -- What follows from a log follows from a longer one.
-use Rattle.std.proofs.Common.{◌≡◌, ℕ, zero, suc, Bool, true, false, cond, List, [], ◌∷◌, ◌++◌, map, refl, sym, ap, ◌∙◌, subst, Option, Some, None, Result, Ok, Err, slice_get}
-use Rattle.std.specs.Option.{ok_or, option_and_then}
+use Rattle.std.proofs.Common.{◌≡◌, ℕ, zero, suc, Bool, true, false, cond, List, [], ◌∷◌, ◌++◌, map, refl, ap, ◌∙◌, Option, Some, None, Result, Ok, Err, slice_get}
+use Rattle.std.specs.Option.{ok_or}
 use Rattle.op_constraints.specs.declared.Lit.{Lit}
 use Rattle.op_constraints.specs.declared.Constraint.{Constraint}
 use Rattle.derivations.specs.declared.Hint.{Hint}
 use Rattle.derivations.specs.declared.Hint.TheVariants.{Lemma as LemmaHint, Given}
 use Rattle.derivations.specs.declared.LogCause.{LogCause}
-use Rattle.derivations.specs.declared.LogCause.TheVariants.{NoSuchHint, HintNotUnit, NoConflict, BadClause}
+use Rattle.derivations.specs.declared.LogCause.TheVariants.{NoSuchHint, BadClause}
 use Rattle.derivations.specs.Clauses.{denial}
 use Rattle.derivations.specs.Follows.{clause_of, forced, after_forced, unit_fault, last_fault, hints_fault, all_hints_fault, is_clause, fault_of}
 

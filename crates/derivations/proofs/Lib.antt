@@ -4,9 +4,12 @@ pub mod Best
 pub mod Grows
 pub mod Parts
 pub mod Numbers
-pub mod Each
 pub mod Rows
 pub mod Pieces
 pub mod Written
 pub mod Again
 pub mod Bounded
+pub mod Apart
+pub mod Shown
+pub mod Back
+pub mod Fitting

@@ -1,22 +1,17 @@
 -- A text that is read in pieces is these pieces again.
-use Rattle.std.proofs.Common.{◌≡◌, ◌+◌, ◌-◌, ◌<◌, ◌≤◌, ◌==◌, ◌^◌, ℕ, List, [], ◌∷◌, ◌++◌, Option, Result, Ok, Err, Bool, true, false, Some, None, cond, length, take, drop, get_or, nat_lt, nat_eq, refl, sym, ap, ◌∙◌, arith, inl, inr, append_assoc, append-nil}
-use Rattle.std.specs.Prelude.{◌&&◌, ◌||◌, not}
-use Rattle.std.specs.Fmt.{decimal}
+use Rattle.std.proofs.Common.{◌≡◌, ◌+◌, ◌-◌, ◌<◌, ◌==◌, ℕ, List, [], ◌∷◌, ◌++◌, Option, Bool, true, false, Some, None, cond, length, take, drop, get_or, nat_lt, nat_eq, refl, sym, ap, ◌∙◌, arith, inl, inr}
 use Rattle.std.specs.Char.{is_ascii_digit}
 use Rattle.std.specs.Cmp.Lexicographic.{pointwise}
 use Rattle.std.specs.Option.{option_map}
-use Rattle.std.specs.List.{list_all, onto_first, position, position_or_len, before_first, after_first}
+use Rattle.std.specs.List.{list_all, onto_first, position_or_len}
 use Rattle.std.proofs.lemmas.Bool.{cases_Bool, ltb-true, eqb-true}
 use Rattle.std.proofs.lemmas.Bool.Decides.{nat_tests}
-use Rattle.std.proofs.lemmas.Fmt.{decimal-digits_value}
-use Rattle.std.proofs.lemmas.List.{take-append-drop, take_rest}
+use Rattle.std.proofs.lemmas.List.{take-append-drop}
 use Rattle.std.proofs.lemmas.List.Sums.{split_at_first, passes_at_first}
 use Rattle.std.proofs.lemmas.Str.Parse.{IsNumeralModel, IsDigitsTest, FoldsDigits, numerals_by_fold}
 use Rattle.std.specs.Prelude.{fold}
 use Rattle.derivations.specs.Text.{joined}
-use Rattle.derivations.specs.Reading.{cut, behind, before, parts, number, value_after, value_of, is_plain, each, both}
-use Rattle.derivations.specs.declared.reading.tokens.LineFault.{LineFault}
-use Rattle.derivations.specs.declared.reading.tokens.LineFault.TheVariants.{Form, Number, Memory}
+use Rattle.derivations.specs.Reading.{cut, behind, before, parts, value_after, value_of}
 
 -- ---- texts
 

@@ -2,7 +2,7 @@
 use Rattle.std.proofs.Common.{◌≡◌, ℕ, zero, suc, ◌+◌, ◌≤◌, ◌==◌, nat_le, Bool, true, false, not, cond, ◌&&◌, ◌||◌, List, [], ◌∷◌, ◌++◌, length, map, refl, sym, ap, ◌∙◌, subst, arith, inl, inr, Option, Some, None, Result, Ok, Err, slice_get}
 use Rattle.std.specs.Option.{option_and_then, option_map, option_or, ok_or}
 use Rattle.std.specs.List.{list_any, list_all, filter, count_by, AllByRecursion}
-use Rattle.std.proofs.lemmas.Bool.{cases_Bool, not-true, not-false, or_cases, or_left, or_right, or_parts, and_parts, and_from, eqb-true, leb-true, both_ways, true_from_ne_false, eqb-false, ne_eqb, eq-eqb, cases_eq, or_from, not_from_true, not_from_false, cond-true, cond-false}
+use Rattle.std.proofs.lemmas.Bool.{cases_Bool, not-true, not-false, or_cases, or_left, or_right, or_parts, and_parts, and_from, eqb-true, leb-true, both_ways, true_from_ne_false, eqb-false, ne_eqb, eq-eqb, cases_eq, or_from, not_from_false, cond-true, cond-false}
 use Rattle.std.proofs.lemmas.List.Sums.{sum_by-cons}
 use mathlib.Core.Bool.{beq}
 use Rattle.op_constraints.specs.declared.Lit.{Lit}
@@ -18,7 +18,7 @@ use Rattle.derivations.specs.declared.LogCause.TheVariants.{BadClause, NoSuchHin
 use Rattle.derivations.specs.declared.LogFault.{LogFault}
 use Rattle.derivations.specs.Clauses.{positive, negative, denial, is_same, is_in, lit_holds, clause_holds, is_too_many, given_clause}
 use Rattle.op_constraints.specs.Kept.{is_distinct}
-use Rattle.derivations.specs.Follows.{clause_of, left, sole, forced, after_forced, unit_fault, is_nothing, last_fault, hints_fault, all_hints_fault, is_clause, fault_of, log_fault, clauses, Follows, LogFollows}
+use Rattle.derivations.specs.Follows.{clause_of, left, sole, forced, after_forced, unit_fault, is_nothing, last_fault, hints_fault, all_hints_fault, is_clause, fault_of, log_fault, clauses}
 use Rattle.op_constraints.proofs.WalkLaws.{under}
 use Rattle.derivations.specs.Laws.{AllHold}
 

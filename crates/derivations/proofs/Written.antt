@@ -1,5 +1,5 @@
 -- What is read of a line is written so again.
-use Rattle.std.proofs.Common.{◌≡◌, ◌+◌, ◌<◌, ◌==◌, ◌^◌, ℕ, List, [], ◌∷◌, ◌++◌, Option, Result, Ok, Err, Bool, true, false, Some, None, cond, length, get_or, nat_lt, refl, sym, ap, ◌∙◌, arith, inl, inr, append_assoc, append-nil}
+use Rattle.std.proofs.Common.{◌≡◌, ◌<◌, ◌==◌, ◌^◌, ℕ, List, [], ◌∷◌, ◌++◌, Option, Result, Ok, Err, Bool, true, false, Some, None, cond, length, get_or, nat_lt, refl, sym, ap, ◌∙◌, arith, inl, inr, append_assoc, append-nil}
 use Rattle.std.specs.Prelude.{◌&&◌, ◌||◌, not, codes}
 use Rattle.std.specs.Fmt.{decimal}
 use Rattle.std.specs.Char.{is_ascii_digit}
@@ -36,7 +36,7 @@ there_is (Some x) read z h = (x, refl, h)
 
 -- ---- numbers
 
-number_parts : (some digits plain small : Bool) (v n : ℕ) → ◌≡◌ {A = Result ℕ LineFault} (cond (some || not digits) (Err Form) (cond (plain && small) (Ok v) (Err Number))) (Ok n)
+pub number_parts : (some digits plain small : Bool) (v n : ℕ) → ◌≡◌ {A = Result ℕ LineFault} (cond (some || not digits) (Err Form) (cond (plain && small) (Ok v) (Err Number))) (Ok n)
     → (some ≡ false) × (digits ≡ true) × (plain ≡ true) × (small ≡ true) × (v ≡ n)
 number_parts true digits plain small v n h = absurd cc
 number_parts false false plain small v n h = absurd cc

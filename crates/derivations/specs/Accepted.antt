@@ -1,5 +1,5 @@
 -- Certificates that are accepted, and logs without waste. Nothing here asks how a search found them.
-use Rattle.std.specs.Prelude.{◌≡◌, ℕ, ◌+◌, ◌<◌, Bool, true, false, not, ◌&&◌, List, [], ◌∷◌, ◌++◌, length, map, take, Option, Some, None}
+use Rattle.std.specs.Prelude.{◌≡◌, ℕ, ◌+◌, Bool, true, false, not, ◌&&◌, List, [], ◌∷◌, ◌++◌, length, map, take, Some}
 use Rattle.std.specs.List.{list_any, list_all, AllByRecursion, range_with_len}
 use Rattle.op_constraints.specs.declared.Lit.{Lit}
 use Rattle.op_constraints.specs.declared.Constraint.{Constraint}

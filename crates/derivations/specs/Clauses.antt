@@ -1,6 +1,6 @@
 -- Clauses: lists of literals, read as sets. One holds of a set of variables where one of its literals does.
 use Rattle.std.specs.Prelude.{ℕ, ◌+◌, ◌==◌, Bool, true, false, not, cond, ◌&&◌, List, [], ◌∷◌, length, map, Option, Some, None}
-use Rattle.std.specs.List.{list_any, list_all, filter}
+use Rattle.std.specs.List.{list_any, list_all}
 use mathlib.Core.Bool.{beq}
 use Rattle.op_constraints.specs.declared.Lit.{Lit}
 use Rattle.op_constraints.specs.declared.Constraint.{Constraint}

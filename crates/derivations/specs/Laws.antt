@@ -1,5 +1,5 @@
 -- What the definitions promise together.
-use Rattle.std.specs.Prelude.{◌≡◌, ◌↔◌, ℕ, Bool, true, List, ◌++◌, Option, Some, Ok, length, ◌+◌, ◌≤◌}
+use Rattle.std.specs.Prelude.{◌≡◌, ◌↔◌, ℕ, Bool, true, List, ◌++◌, Some, Ok, length, ◌+◌, ◌≤◌}
 use Rattle.std.specs.List.{AllByRecursion}
 use Rattle.op_constraints.specs.declared.Lit.{Lit}
 use Rattle.op_constraints.specs.declared.Constraint.{Constraint}
@@ -12,6 +12,7 @@ use Rattle.derivations.specs.declared.Finding.TheVariants.{Chosen, Refused, Unde
 use Rattle.derivations.specs.Accepted.{IsAccepted}
 use Rattle.op_constraints.specs.Walks.{IsBest}
 use Rattle.derivations.specs.Text.{certificate_text}
+use Rattle.derivations.specs.Fits.{CertificateFits}
 use Rattle.derivations.specs.Reading.{certificate_of}
 use Rattle.derivations.specs.Clauses.{given_clause, clause_holds}
 use Rattle.op_constraints.specs.Kept.{HasDistinctMembers}
@@ -81,6 +82,10 @@ AcceptedIsRight = (problem : List (List Constraint)) (certificate : Certificate)
 -- a text that is read as a certificate is the spelling of it, so no other text is read
 abbrev pub ReadIsWritten : Type 0
 ReadIsWritten = (text : List ℕ) (certificate : Certificate) → certificate_of text ≡ Ok certificate → text ≡ certificate_text certificate
+
+-- the spelling of a certificate is read as the certificate exactly where its numbers fit 32 bits
+abbrev pub WrittenIsRead : Type 0
+WrittenIsRead = (certificate : Certificate) → CertificateFits certificate ↔ (certificate_of (certificate_text certificate) ≡ Ok certificate)
 
 -- the walk's numbers and the refutations of a finding
 abbrev pub entries : Finding → ℕ

@@ -1,5 +1,5 @@
 -- The reading of a certificate's text. A line has a right form, in which each number is digits; where the form is right, the numbers may still be written wrong. The first line that is wrong is the fault.
-use Rattle.std.specs.Prelude.{ℕ, ◌+◌, ◌-◌, ◌*◌, ◌^◌, ◌==◌, ◌&&◌, ◌||◌, Bool, true, false, not, nat_eq, nat_lt, if◌then◌else◌, List, [], ◌∷◌, ◌++◌, fold, codes, length, take, drop, Option, Some, None, Result, Ok, Err}
+use Rattle.std.specs.Prelude.{ℕ, ◌+◌, ◌-◌, ◌*◌, ◌^◌, ◌==◌, ◌&&◌, ◌||◌, Bool, true, false, not, nat_eq, nat_lt, if◌then◌else◌, List, [], ◌∷◌, fold, codes, length, take, drop, Option, Some, None, Result, Ok, Err}
 use Rattle.std.specs.Char.{is_ascii_digit}
 use Rattle.std.specs.Cmp.Lexicographic.{pointwise}
 use Rattle.std.specs.List.{list_all, position, slice_split}
@@ -9,7 +9,6 @@ use Rattle.derivations.specs.declared.Hint.{Hint}
 use Rattle.derivations.specs.declared.Hint.TheVariants.{Lemma as LemmaHint, Given}
 use Rattle.derivations.specs.declared.Lemma.{Lemma}
 use Rattle.derivations.specs.declared.Refutation.{Refutation}
-use Rattle.derivations.specs.declared.Log.{Log}
 use Rattle.derivations.specs.declared.Certificate.{Certificate}
 use Rattle.derivations.specs.declared.Finding.{Finding}
 use Rattle.derivations.specs.declared.Finding.TheVariants.{Chosen, Refused, Undecided}

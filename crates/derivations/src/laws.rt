@@ -1,5 +1,5 @@
 // What the definitions promise together. Each law is the contract of a function that does nothing.
-ghost use Rattle.derivations.specs.Laws.{GivenClausesHold, ClausesAreTheProblem, FollowingHolds, LogHolds, LongerLogsKeep, AcceptedIsRight, ReadIsWritten, ReadIsBounded};
+ghost use Rattle.derivations.specs.Laws.{GivenClausesHold, ClausesAreTheProblem, FollowingHolds, LogHolds, LongerLogsKeep, AcceptedIsRight, ReadIsWritten, WrittenIsRead, ReadIsBounded};
 
 /// A clause that a constraint gives holds of every set of which the constraint is true.
 pub fn given_clauses_hold()
@@ -34,6 +34,12 @@ pub fn accepted_is_right()
 /// A text that is read as a certificate is the one spelling of it.
 pub fn read_is_written()
     ensures { ReadIsWritten }
+{}
+
+/// The spelling of a certificate is read as that certificate exactly where its numbers fit 32 bits, as those of each
+/// certificate in memory do.
+pub fn written_is_read()
+    ensures { WrittenIsRead }
 {}
 
 /// A certificate that was read has no more lemmas, walk numbers and refutations together than its text has bytes.

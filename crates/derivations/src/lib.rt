@@ -16,7 +16,7 @@ mod text;
 
 pub use laws::{
     accepted_is_right, clauses_are_the_problem, following_holds, given_clauses_hold, log_holds,
-    longer_logs_keep, read_is_bounded, read_is_written,
+    longer_logs_keep, read_is_bounded, read_is_written, written_is_read,
 };
 use olm_base::Many;
 use op_constraints::{Lit, VarId};

@@ -1,7 +1,10 @@
 // The text of a certificate.
-ghost use Rattle.std.specs.Prelude.{◌≡◌, ℕ, [], ◌∷◌, ◌++◌, OnOk, IfOk};
+ghost use Rattle.std.specs.Prelude.{◌≡◌, ℕ, [], ◌∷◌, ◌++◌, OnOk, IfOk, Ok};
+ghost use Rattle.std.specs.List.{AllByRecursion};
 ghost use Rattle.std.specs.Fmt.{decimal};
 ghost use Rattle.derivations.specs.Text.{joined, token, lit_text, later_member, members_text, hint_text, clause_text, lemma_line, step_line, finding_word, finding_lines, certificate_text};
+ghost use Rattle.derivations.specs.Fits.{NumberFits, LitFits, HintFits, ClauseFits, LemmaFits, StepFits, FindingFits};
+ghost use Rattle.derivations.specs.Reading.{certificate_of};
 
 use crate::{Certificate, Finding, Hint, Lemma, Refutation};
 use olm_base::{Bytes, Memory};
@@ -10,7 +13,8 @@ use std::alloc::Global;
 
 /// Writes the number behind one byte.
 fn put_number(out: &mut Vec<u8>, alloc: Global, before: u8, number: u32) -> Result<(), Memory>
-    ensures { OnOk result (out.new.items ≡ out.old.items ++ before ∷ decimal number) }
+    ensures text { OnOk result (out.new.items ≡ out.old.items ++ before ∷ decimal number) }
+    ensures fits { NumberFits number }
 {
     let text = number.to_string(alloc)?;
     out.push(before)?;
@@ -19,7 +23,8 @@ fn put_number(out: &mut Vec<u8>, alloc: Global, before: u8, number: u32) -> Resu
 }
 
 fn put_lits(out: &mut Vec<u8>, alloc: Global, lits: &[Lit]) -> Result<(), Memory>
-    ensures { OnOk result (out.new.items ≡ out.old.items ++ joined (λ l. token (lit_text l)) lits.now) }
+    ensures text { OnOk result (out.new.items ≡ out.old.items ++ joined (λ l. token (lit_text l)) lits.now) }
+    ensures fits { OnOk result (AllByRecursion LitFits lits.now) }
 {
     for lit in lits {
         out.push(b' ')?;
@@ -30,7 +35,8 @@ fn put_lits(out: &mut Vec<u8>, alloc: Global, lits: &[Lit]) -> Result<(), Memory
 }
 
 fn put_later_members(out: &mut Vec<u8>, alloc: Global, members: &[VarId]) -> Result<(), Memory>
-    ensures { OnOk result (out.new.items ≡ out.old.items ++ joined later_member members.now) }
+    ensures text { OnOk result (out.new.items ≡ out.old.items ++ joined later_member members.now) }
+    ensures fits { OnOk result (AllByRecursion NumberFits members.now) }
 {
     for member in members {
         put_number(out, alloc, b',', member.0)?;
@@ -39,7 +45,8 @@ fn put_later_members(out: &mut Vec<u8>, alloc: Global, members: &[VarId]) -> Res
 }
 
 fn put_members(out: &mut Vec<u8>, alloc: Global, members: &[VarId]) -> Result<(), Memory>
-    ensures { OnOk result (out.new.items ≡ out.old.items ++ members_text members.now) }
+    ensures text { OnOk result (out.new.items ≡ out.old.items ++ members_text members.now) }
+    ensures fits { OnOk result (AllByRecursion NumberFits members.now) }
 {
     if let [first, later @ ..] = members {
         put_number(out, alloc, b'(', first.0)?;
@@ -50,7 +57,8 @@ fn put_members(out: &mut Vec<u8>, alloc: Global, members: &[VarId]) -> Result<()
 }
 
 fn put_hint(out: &mut Vec<u8>, alloc: Global, hint: &Hint) -> Result<(), Memory>
-    ensures { OnOk result (out.new.items ≡ out.old.items ++ hint_text hint.now) }
+    ensures text { OnOk result (out.new.items ≡ out.old.items ++ hint_text hint.now) }
+    ensures fits { OnOk result (HintFits hint.now) }
 {
     match hint {
         Hint::Lemma(number) => put_number(out, alloc, b'L', *number),
@@ -67,7 +75,8 @@ fn put_hint(out: &mut Vec<u8>, alloc: Global, hint: &Hint) -> Result<(), Memory>
 }
 
 fn put_hints(out: &mut Vec<u8>, alloc: Global, hints: &[Hint]) -> Result<(), Memory>
-    ensures { OnOk result (out.new.items ≡ out.old.items ++ joined (λ h. token (hint_text h)) hints.now) }
+    ensures text { OnOk result (out.new.items ≡ out.old.items ++ joined (λ h. token (hint_text h)) hints.now) }
+    ensures fits { OnOk result (AllByRecursion HintFits hints.now) }
 {
     for hint in hints {
         out.push(b' ')?;
@@ -77,7 +86,8 @@ fn put_hints(out: &mut Vec<u8>, alloc: Global, hints: &[Hint]) -> Result<(), Mem
 }
 
 fn put_clause(out: &mut Vec<u8>, alloc: Global, lits: &[Lit], hints: &[Hint]) -> Result<(), Memory>
-    ensures { OnOk result (out.new.items ≡ out.old.items ++ clause_text lits.now hints.now) }
+    ensures text { OnOk result (out.new.items ≡ out.old.items ++ clause_text lits.now hints.now) }
+    ensures fits { OnOk result (ClauseFits lits.now hints.now) }
 {
     put_lits(out, alloc, lits)?;
     out.extend_from_slice(b" :")?;
@@ -85,7 +95,8 @@ fn put_clause(out: &mut Vec<u8>, alloc: Global, lits: &[Lit], hints: &[Hint]) ->
 }
 
 fn put_lemmas(out: &mut Vec<u8>, alloc: Global, lemmas: &[Lemma]) -> Result<(), Memory>
-    ensures { OnOk result (out.new.items ≡ out.old.items ++ joined lemma_line lemmas.now) }
+    ensures text { OnOk result (out.new.items ≡ out.old.items ++ joined lemma_line lemmas.now) }
+    ensures fits { OnOk result (AllByRecursion LemmaFits lemmas.now) }
 {
     for lemma in lemmas {
         out.extend_from_slice(b"lemma")?;
@@ -96,7 +107,8 @@ fn put_lemmas(out: &mut Vec<u8>, alloc: Global, lemmas: &[Lemma]) -> Result<(), 
 }
 
 fn put_numbers(out: &mut Vec<u8>, alloc: Global, numbers: &[u32]) -> Result<(), Memory>
-    ensures { OnOk result (out.new.items ≡ out.old.items ++ joined (λ n. token (decimal n)) numbers.now) }
+    ensures text { OnOk result (out.new.items ≡ out.old.items ++ joined (λ n. token (decimal n)) numbers.now) }
+    ensures fits { OnOk result (AllByRecursion NumberFits numbers.now) }
 {
     for number in numbers {
         put_number(out, alloc, b' ', *number)?;
@@ -109,7 +121,8 @@ fn put_steps(
     alloc: Global,
     steps: &[(u32, u32, Refutation)],
 ) -> Result<(), Memory>
-    ensures { OnOk result (out.new.items ≡ out.old.items ++ joined step_line steps.now) }
+    ensures text { OnOk result (out.new.items ≡ out.old.items ++ joined step_line steps.now) }
+    ensures fits { OnOk result (AllByRecursion StepFits steps.now) }
 {
     for step in steps {
         out.extend_from_slice(b"refute")?;
@@ -137,7 +150,8 @@ fn put_word(out: &mut Vec<u8>, finding: &Finding) -> Result<(), Memory>
 }
 
 fn put_finding(out: &mut Vec<u8>, alloc: Global, finding: &Finding) -> Result<(), Memory>
-    ensures { OnOk result (out.new.items ≡ out.old.items ++ finding_lines finding.now) }
+    ensures text { OnOk result (out.new.items ≡ out.old.items ++ finding_lines finding.now) }
+    ensures fits { OnOk result (FindingFits finding.now) }
 {
     match finding {
         Finding::Chosen { walk, refutations } => {
@@ -161,9 +175,10 @@ fn put_finding(out: &mut Vec<u8>, alloc: Global, finding: &Finding) -> Result<()
     }
 }
 
-/// The one spelling of a certificate, in lines that end with a line feed.
+/// The one spelling of a certificate, in lines that end with a line feed. It is read as this certificate.
 pub fn write_certificate(alloc: Global, certificate: &Certificate) -> Result<Bytes, Memory>
-    ensures { IfOk result (λ text. text ≡ certificate_text certificate.now) }
+    ensures text { IfOk result (λ text. text ≡ certificate_text certificate.now) }
+    ensures read { IfOk result (λ text. certificate_of text ≡ Ok certificate.now) }
 {
     let mut out = Vec::new(alloc);
     out.extend_from_slice(b"certificate 1 ")?;

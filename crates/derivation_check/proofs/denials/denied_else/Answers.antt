@@ -1,4 +1,4 @@
-use Rattle.std.proofs.Common.{◌≡◌, ◌+◌, ◌≤◌, ◌<◌, [], Some, None, sym, ap, ◌∙◌, subst, take, drop, map, length, get_or, arith, rules}
+use Rattle.std.proofs.Common.{◌≡◌, ◌+◌, ◌≤◌, ◌<◌, Some, None, sym, ap, ◌∙◌, subst, take, drop, map, length, get_or, arith, rules}
 use Rattle.std.proofs.lemmas.List.{length-drop, drop-drop}
 use Rattle.op_constraints.specs.Walks.{Walked, taken, choice, walk_from}
 use Rattle.derivations.specs.Accepted.{pairs_from}

@@ -1,6 +1,6 @@
-use Rattle.std.proofs.Common.{◌≡◌, sym, ap, ◌∙◌, take, length, true, false}
+use Rattle.std.proofs.Common.{ap, ◌∙◌, take, length}
 use Rattle.derivations.specs.Follows.{clauses}
-use Rattle.derivation_check.specs.Scan.{are_new, answer}
+use Rattle.derivation_check.specs.Scan.{answer}
 use Rattle.derivation_check.proofs.Denied.{bad_fault, good_fault, clauses_below}
 use Rattle.derivation_check.proofs.hints.fault.Goals as goal
 

@@ -1,8 +1,7 @@
-use Rattle.std.proofs.Common.{◌≡◌, Some, Ok, Err, length, take, sym, ap, ◌∙◌, subst}
+use Rattle.std.proofs.Common.{◌≡◌, Some, Ok, length, take, sym, ap, ◌∙◌, subst}
 use Rattle.std.specs.Option.{option_copied}
 use Rattle.op_constraints.specs.Meets.{constraint_at, IsWithin}
 use Rattle.derivations.specs.Follows.{clause_of, clauses}
-use Rattle.derivations.specs.declared.LogCause.TheVariants.{NoSuchHint}
 use Rattle.derivation_check.specs.declared.scan.Left.TheVariants.{Nothing}
 use Rattle.derivation_check.specs.Scan.{scanned, left_of}
 use Rattle.derivation_check.proofs.Denied.{constraint_within}

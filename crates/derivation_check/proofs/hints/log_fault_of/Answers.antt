@@ -1,4 +1,4 @@
-use Rattle.std.proofs.Common.{◌≡◌, sym, ap, ◌∙◌, take, length, None}
+use Rattle.std.proofs.Common.{◌≡◌, ◌∙◌, take, None}
 use Rattle.derivations.specs.Follows.{clauses, fault_of}
 use Rattle.derivation_check.proofs.LogSteps.{log_step, within_step}
 use Rattle.derivation_check.proofs.hints.log_fault_of.Goals as goal

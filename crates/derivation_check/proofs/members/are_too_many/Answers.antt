@@ -1,4 +1,4 @@
-use Rattle.std.proofs.Common.{◌≡◌, ◌==◌, ◌+◌, true, length, ap, ◌∙◌, subst, eq-eqb}
+use Rattle.std.proofs.Common.{◌≡◌, ◌==◌, ◌+◌, true, length, ap, ◌∙◌, eq-eqb}
 use Rattle.derivation_check.specs.Members.{listed_in}
 use Rattle.derivation_check.proofs.MemberLemmas.{too_many_same}
 use Rattle.derivation_check.proofs.members.are_too_many.Goals as goal

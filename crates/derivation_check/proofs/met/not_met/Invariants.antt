@@ -1,4 +1,4 @@
-use Rattle.std.proofs.Common.{◌≡◌, drop, length}
+use Rattle.std.proofs.Common.{◌≡◌, drop}
 use Rattle.op_constraints.specs.Meets.{at}
 use Rattle.derivation_check.specs.Faults.{met_fault}
 use Rattle.derivation_check.proofs.met.not_met.Given as goal

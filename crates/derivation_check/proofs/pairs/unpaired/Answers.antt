@@ -1,4 +1,4 @@
-use Rattle.std.proofs.Common.{◌≡◌, ℕ, ◌+◌, suc, [], map, drop, drop-cons, sym, ap, ◌∙◌}
+use Rattle.std.proofs.Common.{◌+◌, suc, map, drop, drop-cons, sym, ap, ◌∙◌}
 use Rattle.derivations.specs.Accepted.{pairs_from}
 use Rattle.derivation_check.specs.Faults.{pair_of, pairs_fault}
 use Rattle.derivation_check.proofs.PairLemmas.{left_over, drop_end}

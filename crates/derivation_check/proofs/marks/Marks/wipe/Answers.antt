@@ -1,4 +1,4 @@
-use Rattle.std.proofs.Common.{ap, sym, ◌≡◌, ◌∙◌, ◌≤◌, length, arith}
+use Rattle.std.proofs.Common.{ap, sym, ◌∙◌, ◌≤◌, length, arith}
 use Rattle.derivation_check.proofs.MarkLemmas.{known_wiped, length_known}
 use Rattle.derivation_check.proofs.marks.Marks.wipe.Goals as goal
 

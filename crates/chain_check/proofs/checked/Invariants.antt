@@ -1,0 +1,6 @@
+use Rattle.std.proofs.Common.{◌≡◌}
+use Rattle.chain_check.proofs.checked.Given as goal
+
+-- no round changes the checker
+abbrev pub invariant-rounds : goal.invariant-rounds
+invariant-rounds l = l.checker ≡ l.initial.checker

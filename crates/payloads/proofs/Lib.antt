@@ -1,0 +1,12 @@
+pub mod Appending
+pub mod Combinators
+pub mod ItemLoops
+pub mod KeyForms
+pub mod Leaves
+pub mod ListExtents
+pub mod ObjectForms
+pub mod PlanForms
+pub mod ResolutionForms
+pub mod StatusForms
+pub mod TextTests
+pub mod Whole

@@ -1,0 +1,9 @@
+use Rattle.payloads.specs.Statuses.{csv_form, csv_phase_form}
+use Rattle.payloads.proofs.Appending.{behind, parts_written}
+use Rattle.payloads.proofs.statuses.CsvStatusStored.write_to.Goals as goal
+
+pub returns : goal.returns
+unfolding csv_form
+returns c =
+    parts_written csv_phase_form c.args.self.now.phase _ _ _ c.args.self.now c.args.out.now.items c.write_to-6.new.out.items c.write_to-7.new.out.items c.write_to-7.result c.write_to-7.ensures
+    (λ end. behind c.in_ok-write_to.ensures (behind c.in_ok-write_to-2.ensures (behind c.in_ok-write_to-3.ensures (behind c.in_ok-write_to-4.ensures (behind c.in_ok-write_to-5.ensures (behind c.in_ok-write_to-6.ensures end))))))

@@ -1,0 +1,10 @@
+pub mod Extents
+pub mod Form
+pub mod Keys
+pub mod Laws
+pub mod Objects
+pub mod Plans
+pub mod Reading
+pub mod Resolutions
+pub mod Slots
+pub mod Statuses

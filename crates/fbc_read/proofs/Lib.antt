@@ -3,3 +3,5 @@ pub mod Lists
 pub mod Depths
 pub mod Nesting
 pub mod Forms
+pub mod Joining
+pub mod Along

@@ -18,10 +18,16 @@ is_free (InStream fault) = stream.is_free fault
 is_free (Field blob path kind) = field.is_free kind
 is_free Memory = true
 
--- a fault in the blob of this number
+-- a fault in the blob of this number, and a fault of the stream
+abbrev pub field_fault : ℕ → Fault → ReadFault
+field_fault blob fault = Field blob fault.path fault.kind
+
+abbrev pub stream_fault : StreamFault → ReadFault
+stream_fault fault = InStream fault
+
 abbrev pub numbered : {T : Type 0} → ℕ → Result T Fault → Result T ReadFault
 numbered blob (Ok value) = Ok value
-numbered blob (Err fault) = Err (Field blob fault.path fault.kind)
+numbered blob (Err fault) = Err (field_fault blob fault)
 
 -- the lists of one catalog, each followed by that of another one
 abbrev pub joined : Catalog → Catalog → Catalog
@@ -34,6 +40,18 @@ joined one other =
       manifests = one.manifests ++ other.manifests;
     }
 
+-- a catalog that begins with another one, list by list
+abbrev pub Extends : Catalog → Catalog → Type 0
+Extends old new = (more : Catalog) × (new ≡ joined old more)
+
+-- a catalog to which the one that was read is joined, and what a call that adds to a catalog leaves
+abbrev pub joined_to : Catalog → Result Catalog Fault → Result Catalog Fault
+joined_to old read = and_then read (λ found. Ok (joined old found))
+
+abbrev pub added : Result (Unit {0}) Fault → Catalog → Result Catalog Fault
+added (Ok done) new = Ok new
+added (Err fault) new = Err fault
+
 -- The catalog of some blobs, of which the first one has this number: each list in the order of the blobs. Or the first fault, in the order of the blobs and then of the fields.
 abbrev pub catalog : ℕ → List Data → Result Catalog ReadFault
 catalog first [] = Ok nothing
@@ -45,7 +63,7 @@ values read = map (λ blob. blob.value) read.blobs
 
 abbrev pub unless_broken : {T : Type 0} → T → Option StreamFault → Result T ReadFault
 unless_broken value None = Ok value
-unless_broken value (Some fault) = Err (InStream fault)
+unless_broken value (Some fault) = Err (stream_fault fault)
 
 -- A catalog and the number of blobs that were read.
 pub record Read : Type 0 where
@@ -63,7 +81,14 @@ abbrev pub read_view : Result ℕ ReadFault → Catalog → Result Read ReadFaul
 read_view (Ok count) new = Ok (record { count = count; catalog = new })
 read_view (Err fault) new = Err fault
 
--- Reading one list of blobs and then another one, whose numbers go on, is reading both as one list: the lists of both, or the first fault of both.
-abbrev pub ReadsOn : ℕ → List Data → List Data → Type 0
-ReadsOn first one other =
-    catalog first (one ++ other) ≡ and_then (catalog first one) (λ found. and_then (catalog (first + length one) other) (λ more. Ok (joined found more)))
+-- Reading on into the catalog that one reading left, where it has no fault: the numbers of the blobs go on. All that were read count.
+abbrev pub reading_on : ℕ → Stream → Result Read ReadFault → Result Read ReadFault
+reading_on first other before =
+    and_then before (λ one.
+    and_then (reading one.catalog (first + one.count) other) (λ two.
+    Ok (record { count = one.count + two.count; catalog = two.catalog })))
+
+-- Reading a stream that has no fault, and then another one, is reading the blobs of both as one stream: it gives the lists of both in order, or the first fault of both.
+abbrev pub ReadsOn : Catalog → ℕ → List BlobView → Stream → Type 0
+ReadsOn old first one other =
+    reading_on first other (reading old first (record { blobs = one; fault = None })) ≡ reading old first (stream.before one other)

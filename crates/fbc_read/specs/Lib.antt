@@ -4,3 +4,4 @@ pub mod Constraints
 pub mod Properties
 pub mod Blobs
 pub mod Catalogs
+pub mod Lengths

@@ -1,6 +1,8 @@
 // Laws of the definitions.
 ghost use Rattle.std.specs.Prelude.{◌≡◌, ℕ, List, ◌↔◌, Ok};
 ghost use Rattle.serde_json.specs.Data.{Data};
+ghost use Rattle.catalog_stream.specs.Stream.{BlobView, Stream};
+ghost use Rattle.fbc_types.specs.declared.catalog.Catalog.{Catalog};
 ghost use Rattle.base64.specs.Engines.{standard};
 ghost use Rattle.base64.specs.GeneralPurpose.{encode_of, IsBytes};
 ghost use Rattle.fbc_read.specs.Values.{bytes_of};
@@ -18,7 +20,8 @@ pub fn base64_law()
     ensures { (text : List ℕ) → (bytes : List ℕ) → IsBytes text → IsBytes bytes → (bytes_of text ≡ Ok bytes) ↔ (text ≡ encode_of standard bytes) }
 {}
 
-/// The law of reading on: reading one list of blobs and then another one, whose numbers go on, is reading both as one.
+/// The law of reading on: reading one stream without a fault and then another one into the same catalog, the numbers
+/// going on, is reading the blobs of both at once.
 pub fn reading_law()
-    ensures { (first : ℕ) → (one : List Data) → (other : List Data) → ReadsOn first one other }
+    ensures { (old : Catalog) → (first : ℕ) → (one : List BlobView) → (other : Stream) → ReadsOn old first one other }
 {}

@@ -1,18 +1,20 @@
 //! Catalogs, read from the blobs of a text.
+//!
+//! What each blob gives, and which fault comes first with which path, stands in `specs`: `Values.antt` has the forms
+//! of fields, `Constraints.antt`, `Properties.antt` and `Blobs.antt` have a definition for each object, and
+//! `Catalogs.antt` says what all blobs give together. docs/catalog-blobs.md has the same in tables.
 #![tactic(auto)]
 
+mod additions;
 mod constraints;
 mod fault;
-pub mod items;
+mod items;
 mod laws;
+mod lengths;
 mod properties;
 mod reading;
 mod schemas;
-pub mod values;
+mod values;
 
-pub use constraints::Form;
-pub use fault::{Fault, below_item, below_key, here};
 pub use laws::{base64_law, constraint_law, reading_law};
-pub use properties::Label;
-pub use reading::ReadFault;
-pub use schemas::Schema;
+pub use reading::{ReadFault, read_catalog};

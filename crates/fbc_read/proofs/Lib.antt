@@ -1,0 +1,7 @@
+pub mod Encoded
+pub mod Lists
+pub mod Depths
+pub mod Nesting
+pub mod Forms
+pub mod Joining
+pub mod Along

@@ -1,0 +1,7 @@
+pub mod Faults
+pub mod Values
+pub mod Constraints
+pub mod Properties
+pub mod Blobs
+pub mod Catalogs
+pub mod Lengths

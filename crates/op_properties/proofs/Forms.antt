@@ -1,12 +1,12 @@
 -- What each form of a requirement asks of an offer.
-use Rattle.std.proofs.Common.{◌≡◌, ◌&&◌, ◌||◌, ℕ, Bool, true, false, not, List, [], ◌∷◌, map, refl, sym, ap, ◌∙◌}
+use Rattle.std.proofs.Common.{◌≡◌, ◌&&◌, ◌||◌, ℕ, Bool, false, not, List, [], ◌∷◌, map, refl, sym, ap, ◌∙◌}
 use Rattle.std.specs.List.{list_all, list_any}
 use Rattle.std.proofs.lemmas.List.Folds.{list_all-map}
 use Rattle.version_ranges.specs.Conditions.{holds_of}
 use Rattle.version_ranges.specs.Terms.{Term}
 use Rattle.olm_base.specs.declared.gvk.Gvk.{Gvk}
-use Rattle.op_properties.specs.Offers.{Provided, same_kind}
-use Rattle.op_properties.specs.Passing.{is_of, passes, passes_by}
+use Rattle.op_properties.specs.Offers.{Provided, is_among, is_of}
+use Rattle.op_properties.specs.Passing.{passes, passes_by}
 use Rattle.op_properties.specs.declared.requirement.Requirement.{Requirement}
 use Rattle.op_properties.specs.declared.requirement.Requirement.TheVariants as requirement
 use Rattle.op_properties.specs.declared.requirement.Requirement.TheOpen.{Requirement-F}
@@ -22,7 +22,7 @@ package_passes name range p =
     ap (λ q. passes q p) (sym (requirement.rolls-Package name range))
     ∙ fold-roll-Requirement Bool (passes_by p) (Requirement-F.Package name range)
 
-pub kind_passes : (kind : Gvk) (p : Provided) → passes (requirement.Kind kind) p ≡ list_any (same_kind kind) p.kinds
+pub kind_passes : (kind : Gvk) (p : Provided) → passes (requirement.Kind kind) p ≡ is_among kind p.kinds
 unfolding passes
 kind_passes kind p =
     ap (λ q. passes q p) (sym (requirement.rolls-Kind kind)) ∙ fold-roll-Requirement Bool (passes_by p) (Requirement-F.Kind kind)

@@ -1,5 +1,5 @@
 -- Lists that have each kind once.
-use Rattle.std.proofs.Common.{◌≡◌, ◌&&◌, ◌||◌, ℕ, Bool, true, false, not, if◌then◌else◌, List, [], ◌∷◌, ◌++◌, refl, sym, ap, ◌∙◌, nat_eq, ◌<◌, ◌+◌, take, get_or, length, Option, Some, None, inl, inr}
+use Rattle.std.proofs.Common.{◌≡◌, ◌&&◌, ◌||◌, ℕ, true, false, not, if◌then◌else◌, List, [], ◌∷◌, ◌++◌, refl, sym, ap, ◌∙◌, nat_eq, ◌<◌, ◌+◌, take, get_or, length, Some, None, inl, inr}
 use Rattle.std.specs.List.{filter, filter_map, list_any}
 use Rattle.std.proofs.lemmas.Bool.{cases_Bool, and_parts, eqb-true, false_from_ne_true}
 use Rattle.std.proofs.lemmas.Cmp.{nat_list_eq_equiv}
@@ -41,7 +41,7 @@ differ kind other h =
     absurd (let bad : true ≡ false = sym (same_kind_self kind) ∙ ap (λ k. same_kind kind k) (sym (same_kind_is other kind is)) ∙ h in cc))
 
 -- where another kind is left out, a kind is among the others as before
-among_others : (kind other : Gvk) (kinds : List Gvk) → same_kind kind other ≡ false
+pub among_others : (kind other : Gvk) (kinds : List Gvk) → same_kind kind other ≡ false
     → list_any (same_kind kind) (filter (λ k. not (same_kind other k)) kinds) ≡ list_any (same_kind kind) kinds
 among_others kind other [] h = refl
 among_others kind other (k ∷ kinds) h =

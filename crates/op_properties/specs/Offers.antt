@@ -1,7 +1,7 @@
 -- What a bundle or an installed version provides, and what it is of a bundle.
-use Rattle.std.specs.Prelude.{ℕ, Bool, not, ◌&&◌, List, [], ◌∷◌, Option, Some, None}
-use Rattle.std.specs.List.{filter, filter_map}
-use Rattle.std.specs.Option.{option_and_then, option_map}
+use Rattle.std.specs.Prelude.{ℕ, Bool, false, not, ◌&&◌, List, [], ◌∷◌, Option, Some, None}
+use Rattle.std.specs.List.{filter, filter_map, list_any}
+use Rattle.std.specs.Option.{option_and_then, option_map, option_map_or}
 use Rattle.semver.specs.Identifiers.{parts_of}
 use Rattle.semver.specs.Parse.{Parts}
 use Rattle.version_ranges.specs.Words.{version_of}
@@ -25,6 +25,14 @@ shown offer = record { «package» = offer.«package»; version = parts_of offer
 -- The same group, version and kind.
 abbrev pub same_kind : Gvk → Gvk → Bool
 same_kind kind other = same kind.group other.group && same kind.version other.version && same kind.kind other.kind
+
+-- A kind stands among these.
+abbrev pub is_among : Gvk → List Gvk → Bool
+is_among kind kinds = list_any (same_kind kind) kinds
+
+-- The package is known, and is this one.
+abbrev pub is_of : List ℕ → Option (List ℕ) → Bool
+is_of name known = option_map_or (same name) known false
 
 -- The kind that a property gives.
 abbrev pub kind_of : Property → Option Gvk

@@ -38,10 +38,7 @@ fn package_in(alloc: Global, name: &Name, range: &Text) -> Result<Requirement, M
 }
 
 #[cycle(asked)]
-fn read_members(
-    alloc: Global,
-    constraints: &[RawConstraint],
-) -> Result<Many<Requirement>, Memory>
+fn read_members(alloc: Global, constraints: &[RawConstraint]) -> Result<Many<Requirement>, Memory>
     requires { list_any has_bad_range constraints.now ≡ false }
     ensures { IfOk result (λ members. spec.each_there (map spec.requirement_of constraints.now) ≡ Some members) }
 {
@@ -53,6 +50,7 @@ fn read_members(
 }
 
 #[cycle(asked)]
+#[tactic(auto, using(crate::proofs::Written::writes_package, crate::proofs::Written::writes_kind, crate::proofs::Written::writes_all, crate::proofs::Written::writes_any, crate::proofs::Written::writes_not, crate::proofs::Written::writes_cel, crate::proofs::Written::writes_unknown))]
 fn read_constraint(alloc: Global, constraint: &RawConstraint) -> Result<Requirement, Memory>
     requires { has_bad_range constraint.now ≡ false }
     ensures { IfOk result (λ requirement. spec.requirement_of constraint.now ≡ Some requirement) }
@@ -73,6 +71,7 @@ fn read_constraint(alloc: Global, constraint: &RawConstraint) -> Result<Requirem
     }
 }
 
+#[tactic(auto, using(crate::proofs::Written::writes_package, crate::proofs::Written::writes_kind))]
 fn read_property(alloc: Global, property: &Property) -> Result<Option<Requirement>, Memory>
     requires { is_bad_property property.now ≡ false }
     ensures { IfOk result (λ requirement. option_map spec.requirement_of (spec.asked property.now) ≡ option_map Some requirement) }
@@ -111,5 +110,10 @@ pub fn requirements(
     ensures { IfOk result (λ found. option_and_then spec.requirements_of (slice_get catalog.now.bundles bundle) ≡ Some found) }
 {
     bundles_are_read();
-    read_properties(alloc, catalog.catalog().bundles.as_slice()[bundle].properties.as_slice())
+    read_properties(
+        alloc,
+        catalog.catalog().bundles.as_slice()[bundle]
+            .properties
+            .as_slice(),
+    )
 }

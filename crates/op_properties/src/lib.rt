@@ -5,11 +5,13 @@
 #![tactic(auto)]
 
 mod asked;
+mod laws;
 mod offer;
 mod passing;
 mod requirement;
 
 pub use asked::requirements;
+pub use laws::{constraint_law, kinds_law, order_law, passes_law, read_law};
 pub use offer::{Offer, offer_of};
 pub use passing::passes;
 pub use requirement::Requirement;

@@ -1,6 +1,5 @@
 // What a bundle or an installed version provides.
 ghost use Rattle.std.specs.Prelude.{◌≡◌, ◌∷◌, ◌<◌, [], Some, IfOk, true, length, slice_get};
-ghost use Rattle.std.specs.List.{list_any};
 ghost use Rattle.std.specs.Option.{option_and_then};
 ghost use Rattle.fbc_types.specs.Laws.{HasOneVersion};
 ghost use Rattle.fbc_types.specs.Texts.{is_version, own_versions};
@@ -53,9 +52,26 @@ fn own_version(bundle: &Bundle) -> &Text
 }
 
 fn is_among(kind: &Gvk, kinds: &[Gvk]) -> bool
-    ensures { result ≡ list_any (spec.same_kind kind.now) kinds.now }
+    ensures { result ≡ spec.is_among kind.now kinds.now }
 {
     kinds.iter().any(|other| kind == other)
+}
+
+impl Offer {
+    pub(crate) fn is_of(&self, name: &Name) -> bool
+        ensures { result ≡ spec.is_of name.now self.now.«package» }
+    {
+        match &self.package {
+            Some(package) => name == package,
+            None => false,
+        }
+    }
+
+    pub(crate) fn provides(&self, kind: &Gvk) -> bool
+        ensures { result ≡ spec.is_among kind.now self.now.kinds }
+    {
+        is_among(kind, self.kinds.as_slice())
+    }
 }
 
 pub(crate) fn copy_kind(kind: &Gvk) -> Result<Gvk, Memory>

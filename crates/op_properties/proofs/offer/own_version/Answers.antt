@@ -1,6 +1,6 @@
-use Rattle.std.proofs.Common.{◌≡◌, ◌∙◌, sym, ap, refl, false, true, if◌then◌else◌, ◌++◌, ◌∷◌, []}
+use Rattle.std.proofs.Common.{◌≡◌, ◌∙◌, sym, ap, refl, ◌∷◌, []}
 use Rattle.std.specs.List.{flat_map}
-use Rattle.fbc_types.specs.Texts.{same, versions_for}
+use Rattle.fbc_types.specs.Texts.{versions_for}
 use Rattle.op_properties.proofs.Firsts.{the_only}
 use Rattle.op_properties.proofs.offer.own_version.Goals as goal
 

@@ -1,0 +1,9 @@
+pub mod Forms
+pub mod Firsts
+pub mod Singles
+pub mod Written
+pub mod Whole
+pub mod Cases
+pub mod Ordered
+pub mod Gathered
+pub mod Readable

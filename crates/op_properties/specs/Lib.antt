@@ -1,0 +1,4 @@
+pub mod Offers
+pub mod Asked
+pub mod Passing
+pub mod Laws

@@ -1,0 +1,7 @@
+mod Lists
+mod Chains
+mod Sorts
+mod Ranked
+mod Checked
+mod Ordered
+mod Nearer

@@ -1,0 +1,4 @@
+pub mod Sorting
+pub mod Order
+pub mod Ranks
+pub mod Upgrades

@@ -1,0 +1,3 @@
+mod Nested
+mod Sole
+mod Whole

@@ -1,0 +1,8 @@
+use Rattle.std.proofs.Common.{◌≡◌, ◌++◌, drop}
+use Rattle.std.specs.List.{flat_map}
+use Rattle.fbc_types.specs.Rules as rules
+use Rattle.fbc_check.proofs.entries.entries_without_bundle.Given as goal
+
+abbrev pub invariant-channels : goal.invariant-channels
+invariant-channels l =
+    l.faults.items ++ flat_map (λ channel. flat_map (rules.no_bundle l.bundles channel) channel.entries) (drop l.blob-index l.channels) ≡ l.initial.faults.items ++ flat_map (λ channel. flat_map (rules.no_bundle l.bundles channel) channel.entries) l.channels

@@ -1,7 +1,7 @@
 -- One constraint is read by its own fields, and those in it in the same way.
-use Rattle.std.proofs.Common.{◌≡◌, ◌+◌, ◌<◌, ◌≤◌, ℕ, zero, suc, max, List, [], ◌∷◌, Option, Some, None, Result, Ok, Err, codes, refl, sym, ap, ◌∙◌, subst, arith}
-use Rattle.serde_json.specs.Data.{Data, null, boolean, number, string, array, object, Items, no_items, item, depth, items_depth}
-use Rattle.olm_base.specs.Fields.{field, as_list, items_list}
+use Rattle.std.proofs.Common.{◌≡◌, ◌+◌, ◌<◌, ℕ, zero, suc, List, [], ◌∷◌, Option, Some, None, Result, Ok, Err, codes, refl, ap, ◌∙◌, subst, arith}
+use Rattle.serde_json.specs.Data.{Data, null, boolean, number, string, array, object, depth}
+use Rattle.olm_base.specs.Fields.{field, as_list}
 use Rattle.olm_base.specs.declared.fields.FieldKind.{FieldKind}
 use Rattle.fbc_types.specs.declared.property.RawConstraint.{RawConstraint}
 use Rattle.fbc_types.specs.declared.property.RawConstraint.TheVariants as test

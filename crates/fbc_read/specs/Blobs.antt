@@ -1,5 +1,5 @@
 -- What one blob gives, by its schema.
-use Rattle.std.specs.Prelude.{ℕ, if◌then◌else◌, List, [], ◌∷◌, map, Option, Some, None, Result, Ok, codes}
+use Rattle.std.specs.Prelude.{ℕ, if◌then◌else◌, List, [], ◌∷◌, Option, Some, None, Result, Ok, codes}
 use Rattle.serde_json.specs.Data.{Data}
 use Rattle.fbc_types.specs.declared.catalog.Package.{Package}
 use Rattle.fbc_types.specs.declared.catalog.Channel.{Channel}

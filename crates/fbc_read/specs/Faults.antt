@@ -1,5 +1,5 @@
 -- What a reading gives: a value, or the first fault and the path to it.
-use Rattle.std.specs.Prelude.{ℕ, ◌+◌, Bool, List, [], ◌∷◌, ◌++◌, Result, Ok, Err}
+use Rattle.std.specs.Prelude.{ℕ, Bool, List, [], ◌∷◌, ◌++◌, Result, Ok, Err}
 use Rattle.std.specs.Fmt.{decimal}
 use Rattle.olm_base.specs.Fields as field
 use Rattle.olm_base.specs.declared.fields.FieldKind.{FieldKind}

@@ -18,3 +18,6 @@ mod values;
 
 pub use laws::{base64_law, constraint_law, reading_law};
 pub use reading::{ReadFault, read_catalog};
+
+#[cfg(test)]
+mod tests;

@@ -71,12 +71,13 @@ fn read_on(
     'blobs: loop {
         match blobs.next(alloc) {
             Ok(Some(blob)) => match add_blob(alloc, &blob.value, into) {
-                Ok(()) => count += 1,
+                Ok(()) => {}
                 Err(fault) => return Err(field_fault(first + count, fault)),
             },
             Ok(None) => return Ok(count),
             Err(fault) => return Err(stream_fault(fault)),
         }
+        count += 1;
     }
 }
 

@@ -1,4 +1,4 @@
-use Rattle.std.proofs.Common.{◌≡◌, ◌+◌, ◌<◌, ◌≤◌, Ok, map, ap, sym, subst, ◌∙◌, codes, arith}
+use Rattle.std.proofs.Common.{◌+◌, ◌<◌, ◌≤◌, map, sym, subst, codes, arith}
 use Rattle.serde_json.specs.Data.{depth}
 use Rattle.serde_json.specs.View.{view}
 use Rattle.olm_base.specs.Outcome.{Gives}

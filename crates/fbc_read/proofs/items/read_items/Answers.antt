@@ -1,4 +1,4 @@
-use Rattle.std.proofs.Common.{◌+◌, map, ap, sym, subst}
+use Rattle.std.proofs.Common.{◌+◌, map, sym, subst}
 use Rattle.serde_json.specs.View.{view}
 use Rattle.fbc_read.specs.Faults.{item_step}
 use Rattle.fbc_read.proofs.Lists.{Reads, one_more, one_fault, at_item, below_ok, below_err}

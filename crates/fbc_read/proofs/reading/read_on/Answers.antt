@@ -1,6 +1,5 @@
-use Rattle.std.proofs.Common.{◌≡◌, ◌+◌, ◌<◌, ◌≤◌, Ok, Err, Some, Option, false, refl, ap, subst, ◌∙◌, arith, length}
+use Rattle.std.proofs.Common.{◌≡◌, ◌<◌, ◌≤◌, Ok, Err, Option, false, refl, ap, subst, ◌∙◌, arith, length}
 use Rattle.std.specs.Option.{IfSome}
-use Rattle.serde_json.specs.View.{view}
 use Rattle.catalog_stream.specs.declared.blobs.Blob.{Blob}
 use Rattle.catalog_stream.specs.Stream as stream
 use Rattle.catalog_stream.specs.Stream.{Takes, blobs_from, next_view, blob_view, place_after}
@@ -24,8 +23,8 @@ returns-in-Err-add_blob-clause-answer c =
     c.blobs.invariant.along takes (c.in-Err-add_blob.ensures.answer kept)
     ∙ ap Err same
 
-pub blobs-preserved-in-Ok-3 : goal.blobs-preserved-in-Ok-3
-blobs-preserved-in-Ok-3 c =
+pub blobs-preserved : goal.blobs-preserved
+blobs-preserved c =
     let rest = blobs_from c.blobs.blobs.text c.blobs.blobs.at in
     let later = blobs_from c.next.new.self.text c.next.new.self.at in
     let takes = subst (λ (found : Option Blob). Takes stream.is_free rest later (next_view (Ok found))) c.in-Ok-Some.field-0-is c.in-Ok-Some.ensures.takes in

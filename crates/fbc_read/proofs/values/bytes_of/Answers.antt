@@ -1,4 +1,4 @@
-use Rattle.std.proofs.Common.{◌≡◌, Ok, subst, sym, ap, ◌∙◌}
+use Rattle.std.proofs.Common.{Ok, subst, sym, ap, ◌∙◌}
 use Rattle.base64.specs.Engines.{standard}
 use Rattle.base64.specs.GeneralPurpose.{IsDecodeFailure}
 use Rattle.fbc_read.proofs.Encoded.{bytes_read, bytes_refused}

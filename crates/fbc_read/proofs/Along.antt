@@ -1,5 +1,5 @@
 -- A catalog that is read blob by blob.
-use Rattle.std.proofs.Common.{◌≡◌, ◌+◌, ◌≤◌, ℕ, List, [], ◌∷◌, ◌++◌, Option, Some, None, Result, Ok, Err, map, length, refl, sym, ap, ◌∙◌, append_assoc, append-nil, arith, length-append}
+use Rattle.std.proofs.Common.{Bool, true, false, true≢false, ◌≡◌, ◌+◌, ◌≤◌, ℕ, List, [], ◌∷◌, ◌++◌, Option, Some, None, Result, Ok, Err, map, length, refl, sym, ap, ◌∙◌, append_assoc, append-nil, arith, length-append}
 use Rattle.std.proofs.lemmas.List.{map-append, length-map}
 use Rattle.serde_json.specs.Data.{Data}
 use Rattle.catalog_stream.specs.Reading.{Reading}
@@ -13,6 +13,11 @@ use Rattle.fbc_read.specs.Faults.{and_then}
 use Rattle.fbc_read.specs.Blobs.{nothing, one_blob}
 use Rattle.fbc_read.specs.Catalogs.{numbered, joined, joined_to, catalog, values, unless_broken, Read, reading, reading_on, ReadsOn}
 use Rattle.fbc_read.proofs.Joining.{reads_on, joined_assoc, joined_nothing}
+
+-- where one fault is not free, neither is the one that it stands for
+pub not_free : (inner outer : Bool) → (inner ≡ true → outer ≡ true) → outer ≡ false → inner ≡ false
+not_free true outer h e = absurd (true≢false (sym (h refl) ∙ e))
+not_free false outer h e = refl
 
 -- A loop over a stream that has read so many blobs of it, into this catalog, and has that stream left.
 pub record Along (old : Catalog) (first : ℕ) (whole rest : Stream) (count : ℕ) (now : Catalog) : Type 0 where

@@ -1,7 +1,6 @@
 -- What the blobs of a text give together.
-use Rattle.std.specs.Prelude.{◌≡◌, ℕ, ◌+◌, Bool, true, List, [], ◌∷◌, ◌++◌, map, length, Option, Some, None, Result, Ok, Err}
+use Rattle.std.specs.Prelude.{◌≡◌, ℕ, ◌+◌, Bool, true, false, List, [], ◌∷◌, ◌++◌, map, length, Option, Some, None, Result, Ok, Err}
 use Rattle.serde_json.specs.Data.{Data}
-use Rattle.olm_base.specs.Fields as field
 use Rattle.catalog_stream.specs.Stream as stream
 use Rattle.catalog_stream.specs.Stream.{Stream, BlobView}
 use Rattle.catalog_stream.specs.declared.blobs.StreamFault.{StreamFault}
@@ -14,8 +13,8 @@ use Rattle.fbc_read.specs.Blobs.{nothing, one_blob}
 
 -- want of memory alone is free
 abbrev pub is_free : ReadFault → Bool
-is_free (InStream fault) = stream.is_free fault
-is_free (Field blob path kind) = field.is_free kind
+is_free (InStream fault) = false
+is_free (Field blob path kind) = false
 is_free Memory = true
 
 -- a fault in the blob of this number, and a fault of the stream

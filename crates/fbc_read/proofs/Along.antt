@@ -6,10 +6,10 @@ use Rattle.catalog_stream.specs.Reading.{Reading}
 use Rattle.catalog_stream.specs.Stream.{Stream, BlobView, before}
 use Rattle.catalog_stream.specs.declared.blobs.StreamFault.{StreamFault}
 use Rattle.fbc_types.specs.declared.catalog.Catalog.{Catalog}
-use Rattle.fbc_read.specs.declared.fault.Fault.{Fault}
+use Rattle.json_fields.specs.declared.fault.Fault.{Fault}
 use Rattle.fbc_read.specs.declared.reading.ReadFault.{ReadFault}
 use Rattle.fbc_read.specs.declared.reading.ReadFault.TheVariants.{Field}
-use Rattle.fbc_read.specs.Faults.{and_then}
+use Rattle.json_fields.specs.Faults.{and_then}
 use Rattle.fbc_read.specs.Blobs.{nothing, one_blob}
 use Rattle.fbc_read.specs.Catalogs.{numbered, joined, joined_to, catalog, values, unless_broken, Read, reading, reading_on, ReadsOn}
 use Rattle.fbc_read.proofs.Joining.{reads_on, joined_assoc, joined_nothing}

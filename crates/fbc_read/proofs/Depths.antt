@@ -7,7 +7,7 @@ use Rattle.serde_json.specs.Find.{get_member}
 use Rattle.serde_json.specs.View.{view}
 use Rattle.serde_json.specs.declared.value.Value.{Value}
 use Rattle.olm_base.specs.Fields.{field, as_list, items_list}
-use Rattle.fbc_read.specs.Values.{as_fields}
+use Rattle.json_fields.specs.Values.{as_fields}
 
 member_at : (o : Ordering) (here : Data) (later : Option Data) (found : Data) (n m : ℕ) → depth here ≤ n → (later ≡ Some found → depth found ≤ m) → match_ordering o later (Some here) later ≡ Some found → depth found ≤ max n m
 member_at Less here later found n m h k e = let below = k e in omega (arith, below)

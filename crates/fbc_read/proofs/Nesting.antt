@@ -5,11 +5,11 @@ use Rattle.olm_base.specs.Fields.{field, as_list}
 use Rattle.olm_base.specs.declared.fields.FieldKind.{FieldKind}
 use Rattle.fbc_types.specs.declared.property.RawConstraint.{RawConstraint}
 use Rattle.fbc_types.specs.declared.property.RawConstraint.TheVariants as test
-use Rattle.fbc_read.specs.declared.fault.Fault.{Fault}
+use Rattle.json_fields.specs.declared.fault.Fault.{Fault}
 use Rattle.fbc_read.specs.declared.constraints.Form.{Form}
 use Rattle.fbc_read.specs.declared.constraints.Form.TheVariants.{Package, Kind, All, Any, Not, Cel}
-use Rattle.fbc_read.specs.Faults.{and_then, here, below, key_step, item_step}
-use Rattle.fbc_read.specs.Values.{as_fields, fields_of, opt_text_at, each_from}
+use Rattle.json_fields.specs.Faults.{and_then, here, below, key_step, item_step}
+use Rattle.json_fields.specs.Values.{as_fields, fields_of, opt_text_at, each_from}
 use Rattle.fbc_read.specs.Constraints.{key, form_of, nested_tests, form_test, by_form, constraint_by, constraint_within, constraint}
 use Rattle.fbc_read.proofs.Depths.{fields_depth, list_depth, all_depth}
 

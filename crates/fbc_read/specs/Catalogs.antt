@@ -5,10 +5,10 @@ use Rattle.catalog_stream.specs.Stream as stream
 use Rattle.catalog_stream.specs.Stream.{Stream, BlobView}
 use Rattle.catalog_stream.specs.declared.blobs.StreamFault.{StreamFault}
 use Rattle.fbc_types.specs.declared.catalog.Catalog.{Catalog}
-use Rattle.fbc_read.specs.declared.fault.Fault.{Fault}
+use Rattle.json_fields.specs.declared.fault.Fault.{Fault}
 use Rattle.fbc_read.specs.declared.reading.ReadFault.{ReadFault}
 use Rattle.fbc_read.specs.declared.reading.ReadFault.TheVariants.{Stream as InStream, Field, Memory}
-use Rattle.fbc_read.specs.Faults.{and_then}
+use Rattle.json_fields.specs.Faults.{and_then}
 use Rattle.fbc_read.specs.Blobs.{nothing, one_blob}
 
 -- want of memory alone is free

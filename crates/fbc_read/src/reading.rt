@@ -7,10 +7,10 @@ ghost use Rattle.catalog_stream.specs.Stream.{blobs_from};
 ghost use Rattle.fbc_read.specs.Catalogs as spec;
 
 use crate::additions::add_blob;
-use crate::fault::Fault;
 use crate::lengths::{cut_back, lengths_of};
 use catalog_stream::{Blobs, StreamFault};
 use fbc_types::Catalog;
+use json_fields::Fault;
 use olm_base::{FieldKind, Text};
 use std::alloc::Global;
 use thiserror::Error;

@@ -3,7 +3,7 @@ use Rattle.std.specs.Option.{IfSome}
 use Rattle.catalog_stream.specs.declared.blobs.Blob.{Blob}
 use Rattle.catalog_stream.specs.Stream as stream
 use Rattle.catalog_stream.specs.Stream.{Takes, blobs_from, next_view, blob_view, place_after}
-use Rattle.fbc_read.specs.Faults as faults
+use Rattle.json_fields.specs.Faults as faults
 use Rattle.fbc_read.specs.Catalogs.{is_free}
 use Rattle.fbc_read.proofs.Along.{not_free, at_start, one_more, blob_fault}
 use Rattle.fbc_read.proofs.reading.read_on.Goals as goal

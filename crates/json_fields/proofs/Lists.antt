@@ -6,9 +6,9 @@ use Rattle.serde_json.specs.Data.{Data}
 use Rattle.serde_json.specs.View.{view}
 use Rattle.serde_json.specs.declared.value.Value.{Value}
 use Rattle.olm_base.specs.Outcome.{Gives}
-use Rattle.fbc_read.specs.declared.fault.Fault.{Fault}
-use Rattle.fbc_read.specs.Faults.{is_free, and_then, below, below_fault, item_step}
-use Rattle.fbc_read.specs.Values.{each_from, each}
+use Rattle.json_fields.specs.declared.fault.Fault.{Fault}
+use Rattle.json_fields.specs.Faults.{is_free, and_then, below, below_fault, item_step}
+use Rattle.json_fields.specs.Values.{each_from, each}
 
 -- these items, and then those that a reading gives
 abbrev pub after : {T : Type 0} → List T → Result (List T) Fault → Result (List T) Fault

@@ -11,8 +11,8 @@ use Rattle.olm_base.specs.Fields.{field, as_text, as_opt_text, as_name, as_list,
 use Rattle.olm_base.specs.declared.fields.FieldKind.{FieldKind}
 use Rattle.olm_base.specs.declared.fields.FieldKind.TheVariants.{Missing, WrongType, BadName, Base64}
 use Rattle.olm_base.specs.declared.gvk.Gvk.{Gvk}
-use Rattle.fbc_read.specs.declared.fault.Fault.{Fault}
-use Rattle.fbc_read.specs.Faults.{and_then, here, below, key_step, item_step}
+use Rattle.json_fields.specs.declared.fault.Fault.{Fault}
+use Rattle.json_fields.specs.Faults.{and_then, here, below, key_step, item_step}
 
 -- ---- what may stand at a key
 

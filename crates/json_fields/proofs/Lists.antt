@@ -1,14 +1,14 @@
 -- A list that is read item by item.
-use Rattle.std.proofs.Common.{◌≡◌, ◌+◌, ◌<◌, ◌≤◌, ℕ, zero, suc, List, [], ◌∷◌, ◌++◌, Result, Ok, Err, map, drop, length, refl, sym, ap, ◌∙◌, append_assoc, append-nil}
-use Rattle.std.proofs.Common.{Bool, false, get_or, drop_of_length-le}
+use Rattle.std.proofs.Common.{◌≡◌, ◌+◌, ◌<◌, ◌≤◌, ℕ, List, [], ◌∷◌, ◌++◌, Result, Ok, Err, map, drop, length, refl, sym, ap, ◌∙◌, append_assoc, append-nil}
+use Rattle.std.proofs.Common.{false, get_or, drop_of_length-le}
 use Rattle.std.proofs.lemmas.List.{drop_more, drop-map}
 use Rattle.serde_json.specs.Data.{Data}
 use Rattle.serde_json.specs.View.{view}
 use Rattle.serde_json.specs.declared.value.Value.{Value}
 use Rattle.olm_base.specs.Outcome.{Gives}
-use Rattle.fbc_read.specs.declared.fault.Fault.{Fault}
-use Rattle.fbc_read.specs.Faults.{is_free, and_then, below, below_fault, item_step}
-use Rattle.fbc_read.specs.Values.{each_from, each}
+use Rattle.json_fields.specs.declared.fault.Fault.{Fault}
+use Rattle.json_fields.specs.Faults.{is_free, and_then, below, below_fault, item_step}
+use Rattle.json_fields.specs.Values.{each_from, each}
 
 -- these items, and then those that a reading gives
 abbrev pub after : {T : Type 0} → List T → Result (List T) Fault → Result (List T) Fault

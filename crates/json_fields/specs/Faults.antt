@@ -1,9 +1,9 @@
 -- What a reading gives: a value, or the first fault and the path to it.
-use Rattle.std.specs.Prelude.{ℕ, ◌+◌, Bool, List, [], ◌∷◌, ◌++◌, Result, Ok, Err}
+use Rattle.std.specs.Prelude.{ℕ, Bool, List, [], ◌∷◌, ◌++◌, Result, Ok, Err}
 use Rattle.std.specs.Fmt.{decimal}
 use Rattle.olm_base.specs.Fields as field
 use Rattle.olm_base.specs.declared.fields.FieldKind.{FieldKind}
-use Rattle.fbc_read.specs.declared.fault.Fault.{Fault}
+use Rattle.json_fields.specs.declared.fault.Fault.{Fault}
 
 -- want of memory alone is free
 abbrev pub is_free : Fault → Bool

@@ -1,7 +1,7 @@
 -- The forms of values that a catalog's fields have. `null` reads as absent.
-use Rattle.std.specs.Prelude.{ℕ, ◌+◌, Bool, true, false, if◌then◌else◌, List, [], ◌∷◌, map, Option, Some, None, Result, Ok, Err, codes}
+use Rattle.std.specs.Prelude.{ℕ, ◌+◌, if◌then◌else◌, List, [], ◌∷◌, map, Option, Some, None, Result, Ok, Err, codes}
 use Rattle.std.specs.Borrow.{Bor}
-use Rattle.serde_json.specs.Data.{Data, null, boolean, number, string, array, object, Items, no_items, item}
+use Rattle.serde_json.specs.Data.{Data, null, boolean, number, string, array, object}
 use Rattle.serde_json.specs.View.{view}
 use Rattle.serde_json.specs.declared.value.Value.{Value}
 use Rattle.base64.specs.Engines.{standard}
@@ -9,10 +9,10 @@ use Rattle.base64.specs.GeneralPurpose.{decoded_of}
 use Rattle.olm_base.specs.Names.{is_group}
 use Rattle.olm_base.specs.Fields.{field, as_text, as_opt_text, as_name, as_list, name_of, items_list}
 use Rattle.olm_base.specs.declared.fields.FieldKind.{FieldKind}
-use Rattle.olm_base.specs.declared.fields.FieldKind.TheVariants.{Missing, WrongType, Empty, BadName, Base64}
+use Rattle.olm_base.specs.declared.fields.FieldKind.TheVariants.{Missing, WrongType, BadName, Base64}
 use Rattle.olm_base.specs.declared.gvk.Gvk.{Gvk}
-use Rattle.fbc_read.specs.declared.fault.Fault.{Fault}
-use Rattle.fbc_read.specs.Faults.{and_then, here, below, key_step, item_step}
+use Rattle.json_fields.specs.declared.fault.Fault.{Fault}
+use Rattle.json_fields.specs.Faults.{and_then, here, below, key_step, item_step}
 
 -- ---- what may stand at a key
 

@@ -1,12 +1,12 @@
 -- Encoded bytes.
-use Rattle.std.proofs.Common.{◌≡◌, ℕ, List, Result, Ok, Err, ◌↔◌, refl, sym, ap, ◌∙◌}
+use Rattle.std.proofs.Common.{◌≡◌, ℕ, List, Result, Ok, Err, ◌↔◌, refl, ap}
 use Rattle.std.specs.Result.{result_ok}
 use Rattle.base64.specs.declared.decode.DecodeError.{DecodeError}
 use Rattle.base64.specs.Engines.{standard}
 use Rattle.base64.specs.GeneralPurpose.{decode_of, decoded_of, encode_of, IsBytes}
 use Rattle.base64.proofs.EngineFacts.{decode_of_iff}
 use Rattle.olm_base.specs.declared.fields.FieldKind.TheVariants.{Base64}
-use Rattle.fbc_read.specs.Values.{decoded, bytes_of}
+use Rattle.json_fields.specs.Values.{decoded, bytes_of}
 
 pub bytes_read : (text bytes : List ℕ) → decode_of standard text ≡ Ok bytes → bytes_of text ≡ Ok bytes
 unfolding decoded_of

@@ -2,7 +2,7 @@
 ghost use Rattle.std.specs.Prelude.{◌≡◌, [], ◌∷◌, ◌++◌, string_bytes, Result, IfOk};
 ghost use Rattle.std.specs.Fmt.{decimal};
 ghost use Rattle.olm_base.specs.Outcome.{Ends, Gives};
-ghost use Rattle.fbc_read.specs.Faults as spec;
+ghost use Rattle.json_fields.specs.Faults as spec;
 
 use olm_base::{FieldKind, Memory, Text};
 use std::alloc::{AllocError, Global};

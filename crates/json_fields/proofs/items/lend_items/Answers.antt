@@ -3,7 +3,7 @@ use Rattle.serde_json.specs.View.{view}
 use Rattle.serde_json.proofs.Views.{view-Array}
 use Rattle.olm_base.specs.Fields.{as_list}
 use Rattle.olm_base.proofs.Items.{items_list_is}
-use Rattle.fbc_read.proofs.items.lend_items.Goals as goal
+use Rattle.json_fields.proofs.items.lend_items.Goals as goal
 
 pub returns-in-Array : goal.returns-in-Array
 returns-in-Array c =

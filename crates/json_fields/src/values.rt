@@ -4,8 +4,8 @@ ghost use Rattle.serde_json.specs.View.{view};
 ghost use Rattle.olm_base.specs.Outcome.{Gives};
 ghost use Rattle.olm_base.specs.Fields as field;
 ghost use Rattle.olm_base.specs.Fields.{as_text, as_list};
-ghost use Rattle.fbc_read.specs.Faults.{is_free, below, key_step, here};
-ghost use Rattle.fbc_read.specs.Values as spec;
+ghost use Rattle.json_fields.specs.Faults.{is_free, below, key_step, here};
+ghost use Rattle.json_fields.specs.Values as spec;
 
 use crate::fault::{Fault, below_key, here};
 use base64::DecodeAllocError;

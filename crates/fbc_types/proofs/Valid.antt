@@ -1,5 +1,5 @@
 -- What a catalog has that breaks no rule.
-use Rattle.std.proofs.Common.{◌≡◌, ◌==◌, ◌||◌, ◌&&◌, ℕ, nat_le, Bool, true, false, not, if◌then◌else◌, List, [], ◌∷◌, ◌++◌, length, refl, sym, ap, ◌∙◌, subst, arith, suc, get_or, Option, Some, None}
+use Rattle.std.proofs.Common.{◌≡◌, ◌==◌, ◌&&◌, ℕ, nat_le, Bool, true, false, not, if◌then◌else◌, List, [], ◌∷◌, ◌++◌, length, refl, sym, ap, ◌∙◌, subst, arith, suc, get_or, Option, Some, None}
 use Rattle.std.specs.List.{All, flat_map, list_all, list_any}
 use Rattle.std.specs.Option.{option_map_or}
 use Rattle.std.proofs.lemmas.Bool.{le-leb, eqb-true}
@@ -7,16 +7,14 @@ use Rattle.std.proofs.lemmas.List.Folds.{list_all-append, list_any-append}
 use Rattle.fbc_types.proofs.Lists.{nil_of_append, unbroken, true_of_not, false_of_or, each_unbroken}
 use Rattle.fbc_types.specs.Texts.{same, is_range, is_version, is_bad_property, versions_for, own_versions}
 use Rattle.fbc_types.specs.Channels.{heads, chain, has_name, has_name_twice, is_reached}
-use Rattle.fbc_types.specs.Rules.{broken, where_broken, by_earlier, by_head, repeated_package, repeated_channel, repeated_bundle, repeated_entry, no_channel, no_default, no_bundle, no_entry, no_head, many_heads, circle, stranded, stranded_entry, not_one_version, bad_entry, bad_bundle, lost_channel, lost_bundle, by_entries, of_entry, of_channel, of_bundle, of_package, is_bundle_of, is_channel_of}
+use Rattle.fbc_types.specs.Rules.{broken, where_broken, by_earlier, by_head, repeated_package, repeated_channel, repeated_bundle, repeated_entry, no_channel, no_default, no_bundle, no_entry, no_head, many_heads, circle, stranded, stranded_entry, not_one_version, bad_entry, bad_bundle, by_entries, of_entry, of_channel, is_bundle_of, is_channel_of}
 use Rattle.fbc_types.specs.Laws.{IsValid, HasOneVersion, HasChain, IsBundleOf}
 use Rattle.fbc_types.specs.declared.catalog.Catalog.{Catalog}
-use Rattle.fbc_types.specs.declared.catalog.Package.{Package}
 use Rattle.fbc_types.specs.declared.catalog.Channel.{Channel}
 use Rattle.fbc_types.specs.declared.catalog.Entry.{Entry}
 use Rattle.fbc_types.specs.declared.catalog.Bundle.{Bundle}
 use Rattle.fbc_types.specs.declared.property.Property.{Property}
 use Rattle.fbc_types.specs.declared.property.Property.TheVariants as property
-use Rattle.fbc_types.specs.declared.fault.CheckFault.{CheckFault}
 
 -- each rule by itself
 pub record Kept (catalog : Catalog) : Type 0 where

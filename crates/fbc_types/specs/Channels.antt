@@ -27,7 +27,7 @@ heads entries = filter (is_head entries) entries
 abbrev pub entry_named : List Entry → List ℕ → Option Entry
 entry_named entries name = find (λ entry. same entry.name name) entries
 
--- The entry that this one replaces, where it is in the channel.
+-- The next entry on the chain: the first one of the name that this one replaces, where the channel has such.
 abbrev pub replaced_by : List Entry → Entry → Option Entry
 replaced_by entries entry = option_and_then (entry_named entries) entry.replaces
 
@@ -37,8 +37,8 @@ chain_from zero entries at = []
 chain_from (suc steps) entries None = []
 chain_from (suc steps) entries (Some entry) = entry ∷ chain_from steps entries (replaced_by entries entry)
 
--- The chain of a head. A channel has no more names than entries, so in one step more than these the chain has
--- ended, or a name was met twice.
+-- The chain of a head, which is one of the entries. A channel has no more names than entries, so in one step more
+-- than there are entries the chain has ended, or a name was met twice.
 unfoldable pub chain : List Entry → Entry → List Entry
 chain entries head = chain_from (suc (length entries)) entries (Some head)
 

@@ -1,12 +1,11 @@
 -- What a catalog has that breaks no rule.
-use Rattle.std.specs.Prelude.{◌≡◌, ◌&&◌, ℕ, Bool, true, false, List, [], ◌∷◌}
+use Rattle.std.specs.Prelude.{◌≡◌, ◌&&◌, ℕ, true, false, List, [], ◌∷◌}
 use Rattle.std.specs.List.{All, list_any}
 use Rattle.std.specs.Option.{option_map_or}
 use Rattle.fbc_types.specs.Texts.{same, is_range, is_version, is_bad_property, own_versions}
 use Rattle.fbc_types.specs.Channels.{heads, chain, has_name_twice, is_reached}
-use Rattle.fbc_types.specs.Rules.{broken, is_bundle_of, is_channel_of, has_package}
+use Rattle.fbc_types.specs.Rules.{broken, is_bundle_of, is_channel_of}
 use Rattle.fbc_types.specs.declared.catalog.Catalog.{Catalog}
-use Rattle.fbc_types.specs.declared.catalog.Package.{Package}
 use Rattle.fbc_types.specs.declared.catalog.Channel.{Channel}
 use Rattle.fbc_types.specs.declared.catalog.Entry.{Entry}
 use Rattle.fbc_types.specs.declared.catalog.Bundle.{Bundle}

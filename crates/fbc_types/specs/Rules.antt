@@ -1,7 +1,7 @@
 -- The rules that a catalog must keep. Each is the list of its breaks, by the blobs in their order, and in a blob by
 -- its entries in their order.
-use Rattle.std.specs.Prelude.{ℕ, ◌==◌, ◌&&◌, ◌||◌, Bool, true, false, not, nat_le, if◌then◌else◌, List, [], ◌∷◌, ◌++◌, length, Option, Some, None}
-use Rattle.std.specs.List.{flat_map, list_all, list_any}
+use Rattle.std.specs.Prelude.{ℕ, ◌==◌, ◌&&◌, Bool, false, not, nat_le, if◌then◌else◌, List, [], ◌∷◌, ◌++◌, length, Some, None}
+use Rattle.std.specs.List.{flat_map, list_any}
 use Rattle.std.specs.Option.{option_map_or}
 use Rattle.fbc_types.specs.Texts.{same, is_range, is_bad_property, own_versions}
 use Rattle.fbc_types.specs.Channels.{heads, chain, has_name, has_name_twice, is_reached}
@@ -12,7 +12,7 @@ use Rattle.fbc_types.specs.declared.catalog.Entry.{Entry}
 use Rattle.fbc_types.specs.declared.catalog.Bundle.{Bundle}
 use Rattle.fbc_types.specs.declared.fault.CheckFault.{CheckFault}
 
--- What a fault names: a package, a channel or an entry of it, a bundle.
+-- What a fault names: a package, a channel, an entry of a channel, or a bundle.
 abbrev pub of_package : ℕ → Package → CheckFault
 of_package rule blob = record { rule = rule; «package» = blob.name; channel = None; item = None }
 
@@ -35,7 +35,7 @@ abbrev pub by_earlier : {T : Type 0} → (List T → T → List CheckFault) → 
 by_earlier report earlier [] = []
 by_earlier report earlier (item ∷ items) = report earlier item ++ by_earlier report (earlier ++ item ∷ []) items
 
--- The same package.
+-- The channel, or the bundle, is of the package of this name.
 abbrev pub is_channel_of : List ℕ → Channel → Bool
 is_channel_of name blob = same blob.«package» name
 

@@ -20,7 +20,7 @@ same text other = pointwise nat_eq text other
 abbrev pub is_among : List ℕ → List (List ℕ) → Bool
 is_among name names = list_any (λ other. same other name) names
 
--- The text is a version of Semantic Versioning 2.0.0.
+-- The text is a version of Semantic Versioning 2.0.0, with major, minor and patch numbers below 2 ^ 64.
 abbrev pub is_version : List ℕ → Bool
 is_version text = is_some (version_of text)
 

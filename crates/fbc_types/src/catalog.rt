@@ -39,8 +39,8 @@ pub struct Bundle {
     pub properties: Many<Property>,
 }
 
-/// An entry of a blob of the schema `olm.deprecations`: what it deprecates, and the message for the user. The
-/// schema is that of a package, a channel or a bundle, and the name is absent where it is the package itself.
+/// An entry of a blob of the schema `olm.deprecations`: the schema and the name of what it deprecates, as they are
+/// written, and the message for the user. No rule speaks of them, and they never change a choice.
 #[derive(Debug, Drop, PartialEq)]
 pub struct Deprecation {
     pub package: Name,

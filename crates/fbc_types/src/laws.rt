@@ -7,7 +7,7 @@ pub fn bundles_are_read()
     ensures { BundlesAreRead }
 {}
 
-/// Each channel has one head, whose chain ends, and each other entry is skipped.
+/// Each channel has one head, no name stands twice on its chain, and each entry off the chain is skipped.
 pub fn channels_have_chains()
     ensures { ChannelsHaveChains }
 {}

@@ -13,7 +13,7 @@ pub enum Property {
     NeedKind(Gvk),
     /// `olm.package.required`: the bundle needs this package at a version in this range.
     NeedPackage { name: Name, range: Text },
-    /// `olm.constraint`: the bundle needs another one that passes this test.
+    /// `olm.constraint`: the bundle needs a bundle that passes this test.
     Constraint(RawConstraint),
     /// `olm.bundle.object`: a manifest of the bundle.
     Manifest { body: Bytes },

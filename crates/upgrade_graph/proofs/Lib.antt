@@ -5,3 +5,4 @@ mod Ranked
 mod Checked
 mod Ordered
 mod Nearer
+mod Example

@@ -2,3 +2,4 @@ pub mod Sorting
 pub mod Order
 pub mod Ranks
 pub mod Upgrades
+pub mod Example

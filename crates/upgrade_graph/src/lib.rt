@@ -9,3 +9,6 @@ mod versions;
 
 pub use channel_order::order;
 pub use installed::upgrades;
+
+#[cfg(test)]
+mod tests;

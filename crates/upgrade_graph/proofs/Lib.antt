@@ -5,3 +5,7 @@ mod Ranked
 mod Checked
 mod Ordered
 mod Nearer
+mod Once
+mod Positions
+mod Following
+mod Example

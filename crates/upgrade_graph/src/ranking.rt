@@ -27,10 +27,8 @@ pub(crate) struct Ranked<'a> {
 fn compare(left: &Ranked, right: &Ranked) -> Ordering
     ensures { result ≡ order.rank_cmp (rank_of left.now) (rank_of right.now) }
 {
-    right
-        .version
-        .cmp_precedence(&left.version)
-        .then_with(|| left.entry.name.cmp(&right.entry.name))
+    let by_version = right.version.cmp_precedence(&left.version);
+    by_version.then_with(|| left.entry.name.cmp(&right.entry.name))
 }
 
 fn has_name(name: &Name, entries: &[&Entry]) -> bool

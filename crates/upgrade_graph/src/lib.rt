@@ -17,8 +17,8 @@ mod versions;
 pub use channel_order::order;
 pub use installed::upgrades;
 pub use laws::{
-    heads_come_first, orders_list_all, replacing_comes_first, upgrades_never_come_back,
-    upgrades_stand_before,
+    heads_come_first, orders_list_all, others_are_sorted, replacing_comes_first,
+    upgrades_never_come_back, upgrades_stand_before,
 };
 
 #[cfg(test)]

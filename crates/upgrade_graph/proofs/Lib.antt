@@ -1,5 +1,6 @@
 mod Lists
 mod Chains
+mod Keyed
 mod Sorts
 mod Ranked
 mod Checked

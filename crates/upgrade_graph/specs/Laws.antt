@@ -1,7 +1,7 @@
 -- What the order and the upgrades have, for every catalog that breaks no rule.
-use Rattle.std.specs.Prelude.{◌≡◌, ◌≢◌, ◌<◌, ⊤, ℕ, true, List, [], ◌∷◌, length, Some, get_or}
+use Rattle.std.specs.Prelude.{◌≡◌, ◌≢◌, ◌<◌, ⊤, ℕ, true, List, [], ◌∷◌, ◌++◌, length, Some, get_or}
 use Rattle.std.specs.List.{All}
-use Rattle.std.specs.List.Sorted.{IsPermutation}
+use Rattle.std.specs.List.Sorted.{IsPermutation, IsSortedBy}
 use Rattle.semver.specs.Parse.{Parts}
 use Rattle.fbc_types.specs.Texts.{is_among}
 use Rattle.fbc_types.specs.Channels.{chain, has_name, heads, replaces}
@@ -9,7 +9,7 @@ use Rattle.fbc_types.specs.Laws.{IsValid}
 use Rattle.fbc_types.specs.declared.catalog.Catalog.{Catalog}
 use Rattle.fbc_types.specs.declared.catalog.Channel.{Channel}
 use Rattle.fbc_types.specs.declared.catalog.Entry.{Entry}
-use Rattle.upgrade_graph.specs.Order.{in_order, order}
+use Rattle.upgrade_graph.specs.Order.{in_order, is_before, main_chain, off_chain, order}
 use Rattle.upgrade_graph.specs.Upgrades.{upgrades}
 
 -- The order has each entry of the channel once.
@@ -39,6 +39,14 @@ IsForward channel entries =
 abbrev pub ReplacingComesFirst : Type 0
 ReplacingComesFirst =
     (catalog : Catalog) → IsValid catalog → All (λ channel. IsForward channel (in_order catalog.bundles channel)) catalog.channels
+
+-- Behind the chain stand the others: just these, none of them behind one that it has to come before.
+abbrev pub OthersAreSorted : Type 0
+OthersAreSorted =
+    (catalog : Catalog) (channel : Channel) →
+    (others : List Entry) × (in_order catalog.bundles channel ≡ main_chain channel.entries ++ others)
+    × IsPermutation (off_chain channel.entries) others
+    × IsSortedBy (is_before catalog.bundles channel.«package») others
 
 -- The name stands in the order, before every place at which the other one stands.
 abbrev pub StandsBefore : List (List ℕ) → List ℕ → List ℕ → Type 0

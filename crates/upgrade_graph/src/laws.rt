@@ -1,8 +1,9 @@
 //! What the order and the upgrades have, for every catalog that breaks no rule.
 
-ghost use Rattle.upgrade_graph.specs.Laws.{HeadsComeFirst, OrdersListAll, ReplacingComesFirst, UpgradesNeverComeBack, UpgradesStandBefore};
+ghost use Rattle.upgrade_graph.specs.Laws.{HeadsComeFirst, OrdersListAll, OthersAreSorted, ReplacingComesFirst, UpgradesNeverComeBack, UpgradesStandBefore};
 
 use fbc_types::{channels_have_chains, entries_are_bundles};
+use version_ranges::precedence_law;
 
 /// The order has each entry of the channel once.
 pub fn orders_list_all()
@@ -25,6 +26,13 @@ pub fn replacing_comes_first()
 {
     channels_have_chains();
     entries_are_bundles();
+}
+
+/// Behind the chain stand the other entries, sorted: the higher version first, and of equal ones the lower name.
+pub fn others_are_sorted()
+    ensures { OthersAreSorted }
+{
+    precedence_law();
 }
 
 /// Every upgrade is an entry of the channel, and stands before the installed one where that is in the channel.

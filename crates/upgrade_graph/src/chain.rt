@@ -28,14 +28,15 @@ fn replaces(name: &Name, entry: &Entry) -> bool
     }
 }
 
-fn skips(name: &Name, entry: &Entry) -> bool
+/// The entry skips the bundle of this name.
+pub fn skips(name: &Name, entry: &Entry) -> bool
     ensures { result ≡ spec.skips name.now entry.now }
 {
     is_among(name, entry.skips.as_slice())
 }
 
 /// The entry replaces or skips the bundle of this name.
-pub(crate) fn takes_over(name: &Name, entry: &Entry) -> bool
+pub fn takes_over(name: &Name, entry: &Entry) -> bool
     ensures { result ≡ spec.takes_over name.now entry.now }
 {
     replaces(name, entry) || skips(name, entry)
@@ -65,9 +66,9 @@ fn replaced_by<'a>(table: &BTreeMap<Name, &'a Entry>, entry: &Entry) -> Option<&
     }
 }
 
-/// The chain from the first head. With n entries that name m others it takes the time of n + m look-ups in tables
+/// The chain from the first head, itself included; nothing where there is no head. With n entries that name m others it takes the time of n + m look-ups in tables
 /// of names.
-pub(crate) fn main_chain(alloc: Global, entries: &[Entry]) -> Result<Vec<&Entry>, Memory>
+pub fn main_chain(alloc: Global, entries: &[Entry]) -> Result<Vec<&Entry>, Memory>
     ensures { IfOk result (λ found. map (λ entry. entry.now) found.items ≡ order.main_chain entries.now) }
 {
     let table = entries_by_name(alloc, entries)?;

@@ -14,6 +14,7 @@ mod ranking;
 mod tables;
 mod versions;
 
+pub use chain::{main_chain, skips, takes_over};
 pub use channel_order::order;
 pub use installed::upgrades;
 pub use laws::{

@@ -1,20 +1,23 @@
 -- A catalog that is read blob by blob.
-use Rattle.std.proofs.Common.{◌≡◌, ◌+◌, ◌≤◌, ℕ, suc, List, [], ◌∷◌, ◌++◌, Bool, false, Option, Some, None, Result, Ok, Err, map, length, take, refl, sym, ap, ◌∙◌, append_assoc, append-nil, arith, length-append}
+use Rattle.std.proofs.Common.{Bool, true, false, true≢false, ◌≡◌, ◌+◌, ◌≤◌, ℕ, List, [], ◌∷◌, ◌++◌, Option, Some, None, Result, Ok, Err, map, length, refl, sym, ap, ◌∙◌, append_assoc, append-nil, arith, length-append}
 use Rattle.std.proofs.lemmas.List.{map-append, length-map}
-use Rattle.olm_base.specs.Outcome.{Gives}
 use Rattle.serde_json.specs.Data.{Data}
 use Rattle.catalog_stream.specs.Reading.{Reading}
-use Rattle.catalog_stream.specs.Stream.{Stream, BlobView, before, blobs_from}
+use Rattle.catalog_stream.specs.Stream.{Stream, BlobView, before}
 use Rattle.catalog_stream.specs.declared.blobs.StreamFault.{StreamFault}
 use Rattle.fbc_types.specs.declared.catalog.Catalog.{Catalog}
-use Rattle.fbc_read.specs.declared.fault.Fault.{Fault}
+use Rattle.json_fields.specs.declared.fault.Fault.{Fault}
 use Rattle.fbc_read.specs.declared.reading.ReadFault.{ReadFault}
-use Rattle.fbc_read.specs.declared.reading.ReadFault.TheVariants.{Stream as InStream, Field}
-use Rattle.fbc_read.specs.Faults as faults
-use Rattle.fbc_read.specs.Faults.{and_then}
+use Rattle.fbc_read.specs.declared.reading.ReadFault.TheVariants.{Field}
+use Rattle.json_fields.specs.Faults.{and_then}
 use Rattle.fbc_read.specs.Blobs.{nothing, one_blob}
-use Rattle.fbc_read.specs.Catalogs.{numbered, joined, joined_to, added, catalog, values, unless_broken, Read, reading, reading_on, ReadsOn}
+use Rattle.fbc_read.specs.Catalogs.{numbered, joined, joined_to, catalog, values, unless_broken, Read, reading, reading_on, ReadsOn}
 use Rattle.fbc_read.proofs.Joining.{reads_on, joined_assoc, joined_nothing}
+
+-- where one fault is not free, neither is the one that it stands for
+pub not_free : (inner outer : Bool) → (inner ≡ true → outer ≡ true) → outer ≡ false → inner ≡ false
+not_free true outer h e = absurd (true≢false (sym (h refl) ∙ e))
+not_free false outer h e = refl
 
 -- A loop over a stream that has read so many blobs of it, into this catalog, and has that stream left.
 pub record Along (old : Catalog) (first : ℕ) (whole rest : Stream) (count : ℕ) (now : Catalog) : Type 0 where

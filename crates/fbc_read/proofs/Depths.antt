@@ -1,14 +1,13 @@
 -- What stands in a value nests less deep than the value does.
-use Rattle.std.proofs.Common.{◌≡◌, ◌+◌, ◌<◌, ◌≤◌, ℕ, zero, suc, max, List, [], ◌∷◌, Option, Some, None, Result, Ok, Err, map, length, get_or, Ordering, Less, Equal, Greater, refl, sym, ap, ◌∙◌, subst, arith}
+use Rattle.std.proofs.Common.{◌≡◌, ◌+◌, ◌<◌, ◌≤◌, ℕ, zero, suc, max, List, [], ◌∷◌, Option, Some, None, Ok, map, length, get_or, Ordering, Less, Equal, Greater, refl, sym, ap, ◌∙◌, subst, arith}
 use Rattle.std.specs.Ordering.{nat_cmp, match_ordering}
 use Rattle.std.specs.Cmp.Lexicographic.{slice_cmp}
 use Rattle.serde_json.specs.Data.{Data, null, boolean, number, string, array, object, Items, no_items, item, Members, no_members, member, depth, items_depth, members_depth}
 use Rattle.serde_json.specs.Find.{get_member}
-use Rattle.serde_json.specs.View.{view, items_of, items_view}
+use Rattle.serde_json.specs.View.{view}
 use Rattle.serde_json.specs.declared.value.Value.{Value}
 use Rattle.olm_base.specs.Fields.{field, as_list, items_list}
-use Rattle.olm_base.specs.declared.fields.FieldKind.{FieldKind}
-use Rattle.fbc_read.specs.Values.{as_fields}
+use Rattle.json_fields.specs.Values.{as_fields}
 
 member_at : (o : Ordering) (here : Data) (later : Option Data) (found : Data) (n m : ℕ) → depth here ≤ n → (later ≡ Some found → depth found ≤ m) → match_ordering o later (Some here) later ≡ Some found → depth found ≤ max n m
 member_at Less here later found n m h k e = let below = k e in omega (arith, below)

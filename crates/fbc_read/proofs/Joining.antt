@@ -8,7 +8,7 @@ use Rattle.fbc_types.specs.declared.catalog.Deprecation.{Deprecation}
 use Rattle.fbc_types.specs.declared.catalog.Manifests.{Manifests}
 use Rattle.fbc_types.specs.declared.catalog.Catalog.{Catalog}
 use Rattle.fbc_read.specs.declared.reading.ReadFault.{ReadFault}
-use Rattle.fbc_read.specs.Faults.{and_then}
+use Rattle.json_fields.specs.Faults.{and_then}
 use Rattle.fbc_read.specs.Blobs.{nothing, one_blob}
 use Rattle.fbc_read.specs.Catalogs.{numbered, joined, catalog}
 

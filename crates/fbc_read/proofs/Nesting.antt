@@ -1,15 +1,15 @@
 -- One constraint is read by its own fields, and those in it in the same way.
-use Rattle.std.proofs.Common.{◌≡◌, ◌+◌, ◌<◌, ◌≤◌, ℕ, zero, suc, max, List, [], ◌∷◌, Option, Some, None, Result, Ok, Err, codes, refl, sym, ap, ◌∙◌, subst, arith}
-use Rattle.serde_json.specs.Data.{Data, null, boolean, number, string, array, object, Items, no_items, item, depth, items_depth}
-use Rattle.olm_base.specs.Fields.{field, as_list, items_list}
+use Rattle.std.proofs.Common.{◌≡◌, ◌+◌, ◌<◌, ℕ, zero, suc, List, [], ◌∷◌, Option, Some, None, Result, Ok, Err, codes, refl, ap, ◌∙◌, subst, arith}
+use Rattle.serde_json.specs.Data.{Data, null, boolean, number, string, array, object, depth}
+use Rattle.olm_base.specs.Fields.{field, as_list}
 use Rattle.olm_base.specs.declared.fields.FieldKind.{FieldKind}
 use Rattle.fbc_types.specs.declared.property.RawConstraint.{RawConstraint}
 use Rattle.fbc_types.specs.declared.property.RawConstraint.TheVariants as test
-use Rattle.fbc_read.specs.declared.fault.Fault.{Fault}
+use Rattle.json_fields.specs.declared.fault.Fault.{Fault}
 use Rattle.fbc_read.specs.declared.constraints.Form.{Form}
 use Rattle.fbc_read.specs.declared.constraints.Form.TheVariants.{Package, Kind, All, Any, Not, Cel}
-use Rattle.fbc_read.specs.Faults.{and_then, here, below, key_step, item_step}
-use Rattle.fbc_read.specs.Values.{as_fields, fields_of, opt_text_at, each_from}
+use Rattle.json_fields.specs.Faults.{and_then, here, below, key_step, item_step}
+use Rattle.json_fields.specs.Values.{as_fields, fields_of, opt_text_at, each_from}
 use Rattle.fbc_read.specs.Constraints.{key, form_of, nested_tests, form_test, by_form, constraint_by, constraint_within, constraint}
 use Rattle.fbc_read.proofs.Depths.{fields_depth, list_depth, all_depth}
 

@@ -1,5 +1,5 @@
 -- What one blob gives, by its schema.
-use Rattle.std.specs.Prelude.{ℕ, if◌then◌else◌, List, [], ◌∷◌, map, Option, Some, None, Result, Ok, codes}
+use Rattle.std.specs.Prelude.{ℕ, if◌then◌else◌, List, [], ◌∷◌, Option, Some, None, Result, Ok, codes}
 use Rattle.serde_json.specs.Data.{Data}
 use Rattle.fbc_types.specs.declared.catalog.Package.{Package}
 use Rattle.fbc_types.specs.declared.catalog.Channel.{Channel}
@@ -8,12 +8,12 @@ use Rattle.fbc_types.specs.declared.catalog.Bundle.{Bundle}
 use Rattle.fbc_types.specs.declared.catalog.Deprecation.{Deprecation}
 use Rattle.fbc_types.specs.declared.catalog.Manifests.{Manifests}
 use Rattle.fbc_types.specs.declared.catalog.Catalog.{Catalog}
-use Rattle.fbc_read.specs.declared.fault.Fault.{Fault}
+use Rattle.json_fields.specs.declared.fault.Fault.{Fault}
 use Rattle.fbc_read.specs.declared.schemas.Reference.{Reference}
 use Rattle.fbc_read.specs.declared.schemas.Schema.{Schema}
 use Rattle.fbc_read.specs.declared.schemas.Schema.TheVariants as schema
-use Rattle.fbc_read.specs.Faults.{and_then}
-use Rattle.fbc_read.specs.Values.{into, as_fields, fields_of, list_at, opt_list_at, name_at, opt_name_at, text_at, opt_text_at, name_item, bytes_item}
+use Rattle.json_fields.specs.Faults.{and_then}
+use Rattle.json_fields.specs.Values.{into, as_fields, fields_of, list_at, opt_list_at, name_at, opt_name_at, text_at, opt_text_at, name_item, bytes_item}
 use Rattle.fbc_read.specs.Properties.{same, bundle_property, any_property}
 
 -- a blob of another schema gives nothing

@@ -1,21 +1,20 @@
 -- What the blobs of a text give together.
 use Rattle.std.specs.Prelude.{◌≡◌, ℕ, ◌+◌, Bool, true, false, List, [], ◌∷◌, ◌++◌, map, length, Option, Some, None, Result, Ok, Err}
 use Rattle.serde_json.specs.Data.{Data}
-use Rattle.olm_base.specs.Fields as field
 use Rattle.catalog_stream.specs.Stream as stream
 use Rattle.catalog_stream.specs.Stream.{Stream, BlobView}
 use Rattle.catalog_stream.specs.declared.blobs.StreamFault.{StreamFault}
 use Rattle.fbc_types.specs.declared.catalog.Catalog.{Catalog}
-use Rattle.fbc_read.specs.declared.fault.Fault.{Fault}
+use Rattle.json_fields.specs.declared.fault.Fault.{Fault}
 use Rattle.fbc_read.specs.declared.reading.ReadFault.{ReadFault}
 use Rattle.fbc_read.specs.declared.reading.ReadFault.TheVariants.{Stream as InStream, Field, Memory}
-use Rattle.fbc_read.specs.Faults.{and_then}
+use Rattle.json_fields.specs.Faults.{and_then}
 use Rattle.fbc_read.specs.Blobs.{nothing, one_blob}
 
 -- want of memory alone is free
 abbrev pub is_free : ReadFault → Bool
-is_free (InStream fault) = stream.is_free fault
-is_free (Field blob path kind) = field.is_free kind
+is_free (InStream fault) = false
+is_free (Field blob path kind) = false
 is_free Memory = true
 
 -- a fault in the blob of this number, and a fault of the stream

@@ -6,11 +6,11 @@ use Rattle.olm_base.specs.declared.fields.FieldKind.{FieldKind}
 use Rattle.olm_base.specs.declared.fields.FieldKind.TheVariants.{WrongType, OneOf}
 use Rattle.fbc_types.specs.declared.property.RawConstraint.{RawConstraint}
 use Rattle.fbc_types.specs.declared.property.RawConstraint.TheVariants as test
-use Rattle.fbc_read.specs.declared.fault.Fault.{Fault}
+use Rattle.json_fields.specs.declared.fault.Fault.{Fault}
 use Rattle.fbc_read.specs.declared.constraints.Form.{Form}
 use Rattle.fbc_read.specs.declared.constraints.Form.TheVariants.{Package, Kind, All, Any, Not, Cel}
-use Rattle.fbc_read.specs.Faults.{and_then, here}
-use Rattle.fbc_read.specs.Values.{present, as_fields, fields_of, into, list_at, name_at, text_at, opt_text_at, gvk}
+use Rattle.json_fields.specs.Faults.{and_then, here}
+use Rattle.json_fields.specs.Values.{present, as_fields, fields_of, into, list_at, name_at, text_at, opt_text_at, gvk}
 
 -- a field that is `null` counts as absent
 abbrev pub is_present : List ℕ → Data → Bool

@@ -1,5 +1,3 @@
-pub mod Faults
-pub mod Values
 pub mod Constraints
 pub mod Properties
 pub mod Blobs

@@ -4,11 +4,11 @@ use Rattle.std.specs.Cmp.Lexicographic.{pointwise}
 use Rattle.serde_json.specs.Data.{Data}
 use Rattle.fbc_types.specs.declared.property.Property.{Property}
 use Rattle.fbc_types.specs.declared.property.Property.TheVariants as property
-use Rattle.fbc_read.specs.declared.fault.Fault.{Fault}
+use Rattle.json_fields.specs.declared.fault.Fault.{Fault}
 use Rattle.fbc_read.specs.declared.properties.Label.{Label}
 use Rattle.fbc_read.specs.declared.properties.Label.TheVariants.{Package, Kind, NeedKind, NeedPackage, Manifest, Constraint, Other}
-use Rattle.fbc_read.specs.Faults.{and_then}
-use Rattle.fbc_read.specs.Values.{at, into, as_present, fields_of, name_at, text_at, bytes_at, gvk}
+use Rattle.json_fields.specs.Faults.{and_then}
+use Rattle.json_fields.specs.Values.{at, into, as_present, fields_of, name_at, text_at, bytes_at, gvk}
 use Rattle.fbc_read.specs.Constraints.{constraint}
 
 abbrev pub same : List ℕ → List ℕ → Bool

@@ -3,17 +3,17 @@ ghost use Rattle.std.specs.Prelude.{◌≡◌, OnErr};
 ghost use Rattle.serde_json.specs.View.{view};
 ghost use Rattle.olm_base.specs.Outcome.{Gives};
 ghost use Rattle.fbc_read.specs.declared.schemas.Schema.TheVariants as schema;
-ghost use Rattle.fbc_read.specs.Faults.{is_free};
+ghost use Rattle.json_fields.specs.Faults.{is_free};
 ghost use Rattle.fbc_read.specs.Blobs.{by_schema, one_blob};
 ghost use Rattle.fbc_read.specs.Catalogs.{joined_to, added};
 
-use crate::fault::Fault;
 use crate::lengths::append;
 use crate::schemas::{
     Schema, bundle_blob, channel_blob, check_blob, deprecations_blob, manifests_blob, package_blob,
     schema_of,
 };
 use fbc_types::Catalog;
+use json_fields::Fault;
 use olm_base::{FieldKind, Memory};
 use serde_json::Value;
 use std::alloc::Global;

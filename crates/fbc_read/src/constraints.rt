@@ -2,14 +2,15 @@
 ghost use Rattle.std.specs.Prelude.{◌≡◌, ℕ, ◌+◌, ◌≤◌, Some, IfOk, map, filter};
 ghost use Rattle.serde_json.specs.View.{view};
 ghost use Rattle.olm_base.specs.Outcome.{Gives};
-ghost use Rattle.fbc_read.specs.Faults.{is_free};
-ghost use Rattle.fbc_read.specs.Values.{each};
+ghost use Rattle.json_fields.specs.Faults.{is_free};
+ghost use Rattle.json_fields.specs.Values.{each};
 ghost use Rattle.fbc_read.specs.Constraints as spec;
 
-use crate::fault::{Fault, below_item, below_key};
-use crate::items::lend_list;
-use crate::values::{check_fields, gvk, lend_fields, name_at, opt_text_at, text_at};
 use fbc_types::RawConstraint;
+use json_fields::{
+    Fault, below_item, below_key, check_fields, gvk, lend_fields, lend_list, name_at, opt_text_at,
+    text_at,
+};
 use olm_base::{FieldKind, Many};
 use serde_json::Value;
 use std::alloc::Global;

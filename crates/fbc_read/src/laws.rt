@@ -1,11 +1,8 @@
 // Laws of the definitions.
-ghost use Rattle.std.specs.Prelude.{◌≡◌, ℕ, List, ◌↔◌, Ok};
+ghost use Rattle.std.specs.Prelude.{◌≡◌, ℕ, List};
 ghost use Rattle.serde_json.specs.Data.{Data};
 ghost use Rattle.catalog_stream.specs.Stream.{BlobView, Stream};
 ghost use Rattle.fbc_types.specs.declared.catalog.Catalog.{Catalog};
-ghost use Rattle.base64.specs.Engines.{standard};
-ghost use Rattle.base64.specs.GeneralPurpose.{encode_of, IsBytes};
-ghost use Rattle.fbc_read.specs.Values.{bytes_of};
 ghost use Rattle.fbc_read.specs.Constraints.{constraint, constraint_by};
 ghost use Rattle.fbc_read.specs.Catalogs.{ReadsOn};
 
@@ -13,11 +10,6 @@ ghost use Rattle.fbc_read.specs.Catalogs.{ReadsOn};
 /// deep they nest.
 pub fn constraint_law()
     ensures { (value : Data) → constraint value ≡ constraint_by constraint value }
-{}
-
-/// The law of encoded bytes: a text is read as these bytes exactly where it is their one encoding.
-pub fn base64_law()
-    ensures { (text : List ℕ) → (bytes : List ℕ) → IsBytes text → IsBytes bytes → (bytes_of text ≡ Ok bytes) ↔ (text ≡ encode_of standard bytes) }
 {}
 
 /// The law of reading on: reading one stream without a fault and then another one into the same catalog, the numbers

@@ -3,15 +3,16 @@ ghost use Rattle.std.specs.Prelude.{◌≡◌, Ok, map};
 ghost use Rattle.serde_json.specs.View.{view};
 ghost use Rattle.fbc_types.specs.declared.property.Property.TheVariants as property;
 ghost use Rattle.olm_base.specs.Outcome.{Gives};
-ghost use Rattle.fbc_read.specs.Faults.{is_free, and_then};
-ghost use Rattle.fbc_read.specs.Values.{each, at, as_present};
+ghost use Rattle.json_fields.specs.Faults.{is_free, and_then};
+ghost use Rattle.json_fields.specs.Values.{each, at, as_present};
 ghost use Rattle.fbc_read.specs.Properties as spec;
 
 use crate::constraints::constraint;
-use crate::fault::{Fault, below_item, below_key};
-use crate::items::Item;
-use crate::values::{bytes_at, check_fields, gvk, lend_present, lend_text_at, name_at, text_at};
 use fbc_types::Property;
+use json_fields::{
+    Fault, Reader, below_item, below_key, bytes_at, check_fields, gvk, lend_present, lend_text_at,
+    name_at, text_at,
+};
 use olm_base::{FieldKind, Memory, Text};
 use serde_json::Value;
 use std::alloc::Global;
@@ -133,7 +134,12 @@ fn property_at(alloc: Global, text: &str, value: &Value) -> Result<Property, Fau
     }
 }
 
-impl Item for Property {
+/// The reader of a bundle's properties.
+pub struct Properties;
+
+impl Reader for Properties {
+    type Out = Property;
+
     ghost use Rattle.fbc_read.specs.Properties.{bundle_property};
 
     ghost reading = { bundle_property };

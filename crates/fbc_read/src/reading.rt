@@ -1,14 +1,16 @@
 // The blobs of a text, as a catalog.
-ghost use Rattle.std.specs.Prelude.{◌≡◌, ◌≤◌, ◌+◌, ◌^◌, OnOk, OnErr, length};
+ghost use Rattle.std.specs.Prelude.{◌≡◌, ◌≤◌, ◌+◌, ◌^◌, OnOk, OnErr, true, length};
 ghost use Rattle.olm_base.specs.Outcome.{Ends, Gives};
+ghost use Rattle.olm_base.specs.Fields as field;
+ghost use Rattle.catalog_stream.specs.Stream as stream;
 ghost use Rattle.catalog_stream.specs.Stream.{blobs_from};
 ghost use Rattle.fbc_read.specs.Catalogs as spec;
 
 use crate::additions::add_blob;
-use crate::fault::Fault;
 use crate::lengths::{cut_back, lengths_of};
 use catalog_stream::{Blobs, StreamFault};
 use fbc_types::Catalog;
+use json_fields::Fault;
 use olm_base::{FieldKind, Text};
 use std::alloc::Global;
 use thiserror::Error;
@@ -32,7 +34,8 @@ pub enum ReadFault {
 }
 
 fn field_fault(blob: u32, fault: Fault) -> ReadFault
-    ensures { Ends spec.is_free (spec.field_fault blob fault) result }
+    ensures fault { Ends spec.is_free (spec.field_fault blob fault) result }
+    ensures memory { field.is_free fault.kind ≡ true → result ≡ ReadFault.Memory }
 {
     match fault.kind {
         FieldKind::Memory => ReadFault::Memory,
@@ -45,7 +48,8 @@ fn field_fault(blob: u32, fault: Fault) -> ReadFault
 }
 
 fn stream_fault(fault: StreamFault) -> ReadFault
-    ensures { Ends spec.is_free (spec.stream_fault fault) result }
+    ensures fault { Ends spec.is_free (spec.stream_fault fault) result }
+    ensures memory { stream.is_free fault ≡ true → result ≡ ReadFault.Memory }
 {
     match fault {
         StreamFault::Memory => ReadFault::Memory,
@@ -71,12 +75,13 @@ fn read_on(
     'blobs: loop {
         match blobs.next(alloc) {
             Ok(Some(blob)) => match add_blob(alloc, &blob.value, into) {
-                Ok(()) => count += 1,
+                Ok(()) => {}
                 Err(fault) => return Err(field_fault(first + count, fault)),
             },
             Ok(None) => return Ok(count),
             Err(fault) => return Err(stream_fault(fault)),
         }
+        count += 1;
     }
 }
 

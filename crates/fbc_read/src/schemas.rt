@@ -2,20 +2,18 @@
 ghost use Rattle.std.specs.Prelude.{◌≡◌, map, Ok, codes};
 ghost use Rattle.serde_json.specs.View.{view};
 ghost use Rattle.olm_base.specs.Outcome.{Gives};
-ghost use Rattle.fbc_read.specs.Faults.{is_free, and_then};
-ghost use Rattle.fbc_read.specs.Values.{each, list_at, opt_list_at, lent_text};
+ghost use Rattle.json_fields.specs.Faults.{is_free, and_then};
+ghost use Rattle.json_fields.specs.Values.{each, opt_list_at, lent_text};
 ghost use Rattle.fbc_read.specs.Properties.{any_property};
 ghost use Rattle.fbc_read.specs.Blobs as spec;
 
-use crate::fault::{Fault, below_item, below_key};
-use crate::items::{Item, lend_list, lend_opt_list, read_items};
-use crate::properties::check_properties;
-use crate::values::{
-    bytes_item, check_fields, lend_fields, lend_text_at, name_at, name_item, opt_name_at,
-    opt_text_at, text_at,
-};
+use crate::properties::{Properties, check_properties};
 use fbc_types::{Bundle, Channel, Deprecation, Entry, Manifests, Package};
-use olm_base::{Bytes, FieldKind, Many, Name, Text};
+use json_fields::{
+    Bodies, Fault, Names, Reader, below_item, below_key, check_fields, lend_fields, lend_list,
+    lend_opt_list, lend_text_at, list_at, name_at, opt_list_at, opt_name_at, opt_text_at, text_at,
+};
+use olm_base::{FieldKind, Many, Name, Text};
 use serde_json::Value;
 use std::alloc::Global;
 
@@ -48,47 +46,12 @@ pub fn schema_of(text: &[u8]) -> Schema
     }
 }
 
-/// The list at a key, which must be there.
-fn list_at<T: Item + Drop>(alloc: Global, value: &Value, key: &str) -> Result<Many<T>, Fault>
-    ensures { Gives is_free (list_at T.reading key.now (view value.now)) result }
-{
-    match lend_list(value, key) {
-        Ok(items) => below_key(alloc, read_items(alloc, items), key),
-        Err(kind) => Err(Fault::here(alloc, kind).below_key(alloc, key)),
-    }
-}
+/// The reader of a channel's entries.
+pub struct Entries;
 
-/// The list at a key; the empty one where it is absent or `null`.
-fn opt_list_at<T: Item + Drop>(alloc: Global, value: &Value, key: &str) -> Result<Many<T>, Fault>
-    ensures { Gives is_free (opt_list_at T.reading key.now (view value.now)) result }
-{
-    match lend_opt_list(value, key) {
-        Ok(items) => below_key(alloc, read_items(alloc, items), key),
-        Err(kind) => Err(Fault::here(alloc, kind).below_key(alloc, key)),
-    }
-}
+impl Reader for Entries {
+    type Out = Entry;
 
-impl Item for Name {
-    ghost use Rattle.fbc_read.specs.Values.{name_item};
-
-    ghost reading = { name_item };
-
-    fn read(alloc: Global, value: &Value) -> Result<Name, Fault> {
-        name_item(alloc, value)
-    }
-}
-
-impl Item for Bytes {
-    ghost use Rattle.fbc_read.specs.Values.{bytes_item};
-
-    ghost reading = { bytes_item };
-
-    fn read(alloc: Global, value: &Value) -> Result<Bytes, Fault> {
-        bytes_item(alloc, value)
-    }
-}
-
-impl Item for Entry {
     ghost use Rattle.fbc_read.specs.Blobs.{entry};
 
     ghost reading = { entry };
@@ -97,7 +60,7 @@ impl Item for Entry {
         check_fields(alloc, value)?;
         let name = name_at(alloc, value, "name")?;
         let replaces = opt_name_at(alloc, value, "replaces")?;
-        let skips = opt_list_at(alloc, value, "skips")?;
+        let skips = opt_list_at::<Names>(alloc, value, "skips")?;
         let skip_range = opt_text_at(alloc, value, "skipRange")?;
         Ok(Entry {
             name,
@@ -124,7 +87,7 @@ pub fn channel_blob(alloc: Global, blob: &Value) -> Result<Channel, Fault>
 {
     let package = name_at(alloc, blob, "package")?;
     let name = name_at(alloc, blob, "name")?;
-    let entries = list_at(alloc, blob, "entries")?;
+    let entries = list_at::<Entries>(alloc, blob, "entries")?;
     Ok(Channel {
         package,
         name,
@@ -148,7 +111,7 @@ pub fn bundle_blob(alloc: Global, blob: &Value) -> Result<Bundle, Fault>
     let package = name_at(alloc, blob, "package")?;
     let name = name_at(alloc, blob, "name")?;
     let image = opt_text_at(alloc, blob, "image")?;
-    let properties = opt_list_at(alloc, blob, "properties")?;
+    let properties = opt_list_at::<Properties>(alloc, blob, "properties")?;
     Ok(Bundle {
         package,
         name,
@@ -161,7 +124,7 @@ pub fn manifests_blob(alloc: Global, blob: &Value) -> Result<Manifests, Fault>
     ensures { Gives is_free (spec.manifests_blob (view blob.now)) result }
 {
     let image = text_at(alloc, blob, "image")?;
-    let bodies = list_at(alloc, blob, "data")?;
+    let bodies = list_at::<Bodies>(alloc, blob, "data")?;
     Ok(Manifests { image, bodies })
 }
 

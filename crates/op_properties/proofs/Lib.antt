@@ -7,3 +7,4 @@ pub mod Cases
 pub mod Ordered
 pub mod Gathered
 pub mod Readable
+pub mod Samples

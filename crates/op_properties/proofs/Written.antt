@@ -22,6 +22,10 @@ unfolding has_bad_range
 bad_package name range =
     ap has_bad_range (sym (raw.rolls-Package name range)) ∙ fold-roll-RawConstraint Bool names_bad_range (RawConstraint-F.Package name range)
 
+pub bad_kind : (kind : Gvk) → has_bad_range (raw.Kind kind) ≡ false
+unfolding has_bad_range
+bad_kind kind = ap has_bad_range (sym (raw.rolls-Kind kind)) ∙ fold-roll-RawConstraint Bool names_bad_range (RawConstraint-F.Kind kind)
+
 pub bad_all : (members : List RawConstraint) → has_bad_range (raw.All members) ≡ list_any has_bad_range members
 unfolding has_bad_range
 bad_all members =

@@ -28,7 +28,7 @@ abbrev pub package_in : List ℕ → List ℕ → Option Requirement
 package_in name range = option_map (requirement.Package name) (range_of range)
 
 -- The requirement that a constraint writes, given what the constraints in it write. A rule in CEL, and a constraint
--- of no known form, are written by nothing that can be tested.
+-- of no known form, ask for what can't be tested.
 abbrev pub requirement_by : RawConstraint-F (Option Requirement) → Option Requirement
 requirement_by (RawConstraint-F.Package name range) = package_in name range
 requirement_by (RawConstraint-F.Kind kind) = Some (requirement.Kind kind)

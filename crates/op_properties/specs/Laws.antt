@@ -17,6 +17,7 @@ use Rattle.op_properties.specs.Passing.{passes}
 use Rattle.op_properties.specs.declared.requirement.Requirement.{Requirement}
 use Rattle.op_properties.specs.declared.requirement.Requirement.TheVariants as requirement
 
+-- The requirement is met by what is provided.
 abbrev pub Passes : Requirement → Provided → Type 0
 Passes needed provided = passes needed provided ≡ true
 
@@ -31,7 +32,7 @@ PackagePasses =
 abbrev pub KindPasses : Type 0
 KindPasses = (kind : Gvk) (provided : Provided) → Passes (requirement.Kind kind) provided ↔ Contains provided.kinds kind
 
--- Each, one and none. Of no members each passes, none passes, and one does not.
+-- Each member, one member, no member. With no members All and Not are met, and Any isn't.
 abbrev pub AllPass : Type 0
 AllPass =
     (members : List Requirement) (provided : Provided) →

@@ -1,7 +1,12 @@
 mod Lists
 mod Chains
+mod Keyed
 mod Sorts
 mod Ranked
 mod Checked
 mod Ordered
 mod Nearer
+mod Once
+mod Positions
+mod Following
+mod Example

@@ -1,5 +1,5 @@
 -- Entries ranked one by one, and their order.
-use Rattle.std.proofs.Common.{◌≡◌, ◌+◌, ◌<◌, ℕ, List, [], ◌∷◌, ◌++◌, length, get_or, take, map, sym, ap, ◌∙◌, subst}
+use Rattle.std.proofs.Common.{◌≡◌, ◌+◌, ◌<◌, ℕ, List, [], ◌∷◌, ◌++◌, length, get_or, take, map, sym, ap, ◌∙◌, subst, refl}
 use Rattle.std.specs.Cmp.{IsTotalOrder, back_total, on_total, then_total}
 use Rattle.std.specs.List.{All}
 use Rattle.std.specs.Ordering.{is_lt}
@@ -9,7 +9,11 @@ use Rattle.std.proofs.lemmas.List.{map-append, map_more}
 use Rattle.std.proofs.lemmas.List.Elements.{All-push}
 use Rattle.version_ranges.specs.Versions.{precedence, release}
 use Rattle.fbc_types.specs.declared.catalog.Bundle.{Bundle}
-use Rattle.upgrade_graph.specs.Order.{Rank, is_before, rank, rank_cmp}
+use Rattle.upgrade_graph.specs.Order.{Rank, in_order, is_before, off_chain, rank, rank_cmp}
+use Rattle.upgrade_graph.specs.Laws.{OthersAreSorted}
+use Rattle.upgrade_graph.specs.Sorting.{sorted}
+use Rattle.std.proofs.lemmas.List.Sorted.{ranks_by}
+use Rattle.upgrade_graph.proofs.Sorts.{sorted_permutes, sorted_up}
 use Rattle.upgrade_graph.specs.Ranks.{IsRanked, rank_of, stands_for}
 use Rattle.upgrade_graph.specs.declared.ranking.Ranked.{Ranked}
 
@@ -38,3 +42,12 @@ pub compares_same : (bundles : List Bundle) (owner : List ℕ) (a b : Ranked) �
 compares_same bundles owner a b h k =
     ap (λ r. is_lt (rank_cmp r (rank_of b))) (rank_same bundles owner a h)
     ∙ ap (λ r. is_lt (rank_cmp (rank bundles owner (stands_for a)) r)) (rank_same bundles owner b k)
+
+pub others_are_sorted : IsTotalOrder precedence → OthersAreSorted
+unfolding in_order
+others_are_sorted total catalog channel = (
+  sorted (is_before catalog.bundles channel.«package») (off_chain channel.entries),
+  refl,
+  sorted_permutes (is_before catalog.bundles channel.«package») (off_chain channel.entries),
+  sorted_up (is_before catalog.bundles channel.«package») (ranks_by (rank_total total) (rank catalog.bundles channel.«package»)) (off_chain channel.entries),
+)

@@ -1,5 +1,5 @@
 -- A stable sort has one answer.
-use Rattle.std.proofs.Common.{◌≡◌, ◌&&◌, ℕ, suc, ◌<◌, ◌≤◌, Bool, true, false, not, if◌then◌else◌, List, [], ◌∷◌, length, get_or, map, refl, sym, ap, ◌∙◌, subst, arith}
+use Rattle.std.proofs.Common.{◌≡◌, ◌&&◌, ℕ, zero, suc, ◌<◌, ◌≤◌, Bool, true, false, not, if◌then◌else◌, List, [], ◌∷◌, length, get_or, map, refl, sym, ap, ◌∙◌, subst, arith, ◌+◌}
 use Rattle.std.specs.Prelude.{filter}
 use Rattle.std.specs.Cmp.{IsStrictWeakOrder}
 use Rattle.std.specs.List.{All, AllByRecursion}
@@ -147,6 +147,19 @@ module _ {T : Type 0} (lt : T → T → Bool) (o : IsStrictWeakOrder lt) where
   unfolding Ordered
   sorted_ordered [] = tt
   sorted_ordered (x ∷ xs) = put_ordered x (sorted lt xs) (sorted_ordered xs)
+
+  by_places : (xs : List T) → Ordered lt xs → (k : ℕ) (d : T) → k + 1 < length xs → lt (get_or xs (k + 1) d) (get_or xs k d) ≡ false
+  unfolding Ordered
+  by_places [] up k d below = absurd (omega (arith, below))
+  by_places (x ∷ []) up k d below = absurd (omega (arith, below))
+  by_places (x ∷ y ∷ ys) up zero d below = up.0.0
+  by_places (x ∷ y ∷ ys) up (suc k) d below =
+      let next : suc k + 1 ≡ suc (k + 1) = omega arith in
+      let rest = by_places (y ∷ ys) up.1 k d (omega (arith, below)) in
+      subst (λ (n : ℕ). lt (get_or (x ∷ y ∷ ys) n d) (get_or (y ∷ ys) k d) ≡ false) (sym next) rest
+
+  pub sorted_up : (xs : List T) → IsSortedBy lt (sorted lt xs)
+  sorted_up xs k d low below = by_places (sorted lt xs) (sorted_ordered xs) k d below
 
   -- the sorted list keeps what ties as it stands
   apart : (z x y : T) → lt y x ≡ true → ties lt z y ≡ true → ties lt z x ≡ false

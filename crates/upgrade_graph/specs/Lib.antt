@@ -1,4 +1,7 @@
 pub mod Sorting
 pub mod Order
 pub mod Ranks
+pub mod Tables
 pub mod Upgrades
+pub mod Laws
+pub mod Example

@@ -1,14 +1,17 @@
 // The chain from a channel's head.
-ghost use Rattle.std.specs.Prelude.{◌≡◌, map, IfOk};
-ghost use Rattle.std.specs.List.{find, list_any};
-ghost use Rattle.std.specs.Option.{option_copied};
+ghost use Rattle.std.specs.Prelude.{◌≡◌, map, not, IfOk};
+ghost use Rattle.std.specs.List.{find};
+ghost use Rattle.std.specs.Option.{option_and_then, option_copied};
 ghost use Rattle.fbc_types.specs.Channels as spec;
 ghost use Rattle.fbc_types.specs.Texts.{is_among};
 ghost use Rattle.upgrade_graph.specs.Order as order;
+ghost use Rattle.upgrade_graph.specs.Tables.{is_in, under};
 
+use crate::tables::{entries_by_name, taken_names};
 use fbc_types::Entry;
 use olm_base::{Memory, Name};
 use std::alloc::Global;
+use std::collections::{BTreeMap, BTreeSet};
 
 fn is_among(name: &Name, names: &[Name]) -> bool
     ensures { result ≡ is_among name.now names.now }
@@ -25,63 +28,57 @@ fn replaces(name: &Name, entry: &Entry) -> bool
     }
 }
 
-fn skips(name: &Name, entry: &Entry) -> bool
+/// The entry skips the bundle of this name.
+pub fn skips(name: &Name, entry: &Entry) -> bool
     ensures { result ≡ spec.skips name.now entry.now }
 {
     is_among(name, entry.skips.as_slice())
 }
 
 /// The entry replaces or skips the bundle of this name.
-pub(crate) fn takes_over(name: &Name, entry: &Entry) -> bool
+pub fn takes_over(name: &Name, entry: &Entry) -> bool
     ensures { result ≡ spec.takes_over name.now entry.now }
 {
     replaces(name, entry) || skips(name, entry)
 }
 
-fn is_taken_over(entries: &[Entry], name: &Name) -> bool
-    ensures { result ≡ list_any (spec.takes_over name.now) entries.now }
+fn first_free<'a>(entries: &'a [Entry], taken: &BTreeSet<Name>) -> Option<&'a Entry>
+    ensures { option_copied result ≡ find (λ entry. not (is_in taken.now.keys entry.name)) entries.now }
 {
-    entries.iter().any(|entry| takes_over(name, entry))
+    entries.iter().find(|entry| !taken.contains(&entry.name))
 }
 
-fn is_head(entries: &[Entry], entry: &Entry) -> bool
-    ensures { result ≡ spec.is_head entries.now entry.now }
+/// The first entry that no other one replaces or skips.
+fn head_of(alloc: Global, entries: &[Entry]) -> Result<Option<&Entry>, Memory>
+    ensures { IfOk result (λ head. option_copied head ≡ find (spec.is_head entries.now) entries.now) }
 {
-    !is_taken_over(entries, &entry.name)
+    let taken = taken_names(alloc, entries)?;
+    Ok(first_free(entries, &taken))
 }
 
-fn head_of(entries: &[Entry]) -> Option<&Entry>
-    ensures { option_copied result ≡ find (spec.is_head entries.now) entries.now }
-{
-    entries.iter().find(|entry| is_head(entries, entry))
-}
-
-fn entry_named<'a>(entries: &'a [Entry], name: &Name) -> Option<&'a Entry>
-    ensures { option_copied result ≡ spec.entry_named entries.now name.now }
-{
-    entries.iter().find(|entry| entry.name == *name)
-}
-
-fn replaced_by<'a>(entries: &'a [Entry], entry: &Entry) -> Option<&'a Entry>
-    ensures { option_copied result ≡ spec.replaced_by entries.now entry.now }
+/// The entry of a table that this one replaces.
+fn replaced_by<'a>(table: &BTreeMap<Name, &'a Entry>, entry: &Entry) -> Option<&'a Entry>
+    ensures { option_copied result ≡ option_and_then (under table.now.entries) entry.now.replaces }
 {
     match &entry.replaces {
-        Some(name) => entry_named(entries, name),
+        Some(name) => table.get(name).copied(),
         None => None,
     }
 }
 
-/// The chain from the first head.
-pub(crate) fn main_chain(alloc: Global, entries: &[Entry]) -> Result<Vec<&Entry>, Memory>
+/// The chain from the first head, itself included; nothing where there is no head. With n entries that name m others it takes the time of n + m look-ups in tables
+/// of names.
+pub fn main_chain(alloc: Global, entries: &[Entry]) -> Result<Vec<&Entry>, Memory>
     ensures { IfOk result (λ found. map (λ entry. entry.now) found.items ≡ order.main_chain entries.now) }
 {
+    let table = entries_by_name(alloc, entries)?;
     let mut found = Vec::new(alloc);
-    let mut next = head_of(entries);
+    let mut next = head_of(alloc, entries)?;
     for _step in 0..entries.len() + 1 {
         match next {
             Some(entry) => {
                 found.push(entry)?;
-                next = replaced_by(entries, entry);
+                next = replaced_by(&table, entry);
             }
             None => break,
         }

@@ -68,6 +68,10 @@ fn order_of(alloc: Global, bundles: &[Bundle], channel: &Channel) -> Result<Many
 /// The names of a channel's entries in channel order: those on the chain from its head, and then the others by
 /// their versions, the highest first, and of equal ones by their names. None exactly where the package has no such
 /// channel.
+///
+/// It goes through the catalog's channels and bundles once. Beyond that, with n entries that name m others and b
+/// bundles of the package, it takes the time of n + m + b look-ups in tables of names and of a sort, and memory for
+/// these names.
 pub fn order(
     alloc: Global,
     catalog: &CheckedCatalog,

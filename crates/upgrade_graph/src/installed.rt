@@ -89,6 +89,8 @@ fn upgrades_in(
 /// The names of the upgrades in a channel from the installed bundle of a name and a version, in channel order: the
 /// entries that replace it, skip it, or have its version in their `skipRange`, and that stand before it where it is
 /// in the channel. The channel needn't have it. There are none where the package has no such channel.
+///
+/// It takes the time of `order`, and reads each `skipRange` before the installed bundle once.
 pub fn upgrades(
     alloc: Global,
     catalog: &CheckedCatalog,

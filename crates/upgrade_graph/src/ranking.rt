@@ -8,6 +8,7 @@ ghost use Rattle.upgrade_graph.specs.Order as order;
 ghost use Rattle.upgrade_graph.specs.Ranks.{rank_of, stands_for, IsRanked};
 ghost use Rattle.upgrade_graph.specs.Sorting.{sorted};
 
+use crate::tables::{bundles_by_name, names_on};
 use crate::versions::version_named;
 use fbc_types::{Bundle, Entry};
 use olm_base::{Memory, Name};
@@ -27,21 +28,8 @@ pub(crate) struct Ranked<'a> {
 fn compare(left: &Ranked, right: &Ranked) -> Ordering
     ensures { result ≡ order.rank_cmp (rank_of left.now) (rank_of right.now) }
 {
-    right
-        .version
-        .cmp_precedence(&left.version)
-        .then_with(|| left.entry.name.cmp(&right.entry.name))
-}
-
-fn has_name(name: &Name, entries: &[&Entry]) -> bool
-    ensures { result ≡ list_any (λ entry. same entry.now.name name.now) entries.now }
-{
-    for entry in entries {
-        if entry.name == *name {
-            return true;
-        }
-    }
-    false
+    let by_version = right.version.cmp_precedence(&left.version);
+    by_version.then_with(|| left.entry.name.cmp(&right.entry.name))
 }
 
 /// The entries whose names aren't on the chain.
@@ -52,9 +40,10 @@ pub(crate) fn off_chain<'a>(
 ) -> Result<Vec<&'a Entry>, Memory>
     ensures { IfOk result (λ others. map (λ entry. entry.now) others.items ≡ filter (λ entry. not (list_any (λ link. same link.now.name entry.name) chain.now)) entries.now) }
 {
+    let on_chain = names_on(alloc, chain)?;
     let mut others = Vec::new(alloc);
     for entry in entries {
-        if has_name(&entry.name, chain) {
+        if on_chain.contains(&entry.name) {
             continue;
         }
         others.push(entry)?;
@@ -72,9 +61,10 @@ fn rank_all<'a>(
     ensures same { IfOk result (λ ranked. map stands_for ranked.items ≡ map (λ entry. entry.now) entries.now) }
     ensures ranks { IfOk result (λ ranked. All (IsRanked bundles.now owner.now) ranked.items) }
 {
+    let table = bundles_by_name(alloc, bundles, owner)?;
     let mut ranked = Vec::new(alloc);
     for entry in entries {
-        let version = version_named(alloc, bundles, owner, &entry.name)?;
+        let version = version_named(alloc, &table, &entry.name)?;
         ranked.push(Ranked { version, entry })?;
     }
     Ok(ranked)

@@ -1,29 +1,17 @@
 // The versions of bundles.
 ghost use Rattle.std.specs.Prelude.{◌≡◌, ◌&&◌, Some, true, IfOk, IsSome, slice_get};
-ghost use Rattle.std.specs.List.{find};
-ghost use Rattle.std.specs.Option.{option_copied, option_to_list};
+ghost use Rattle.std.specs.Option.{option_and_then, option_copied, option_to_list};
 ghost use Rattle.semver.specs.Identifiers.{parts_of};
 ghost use Rattle.version_ranges.specs.Words.{version_of};
-ghost use Rattle.fbc_types.specs.Rules.{is_bundle_of};
-ghost use Rattle.fbc_types.specs.Texts.{is_version, own_versions, same, versions_for};
+ghost use Rattle.fbc_types.specs.Texts.{is_version, own_versions, versions_for};
 ghost use Rattle.upgrade_graph.specs.Order as order;
+ghost use Rattle.upgrade_graph.specs.Tables.{under};
 
 use fbc_types::{Bundle, Property};
 use olm_base::{Memory, Name, Text};
 use semver::Version;
 use std::alloc::Global;
-
-fn is_bundle(bundle: &Bundle, owner: &Name, name: &Name) -> bool
-    ensures { result ≡ (is_bundle_of owner.now bundle.now && same bundle.now.name name.now) }
-{
-    bundle.package == *owner && bundle.name == *name
-}
-
-fn bundle_named<'a>(bundles: &'a [Bundle], owner: &Name, name: &Name) -> Option<&'a Bundle>
-    ensures { option_copied result ≡ order.bundle_named bundles.now owner.now name.now }
-{
-    bundles.iter().find(|bundle| is_bundle(bundle, owner, name))
-}
+use std::collections::BTreeMap;
 
 /// The version that a property gives for this package.
 fn version_for<'a>(owner: &Name, property: &'a Property) -> Option<&'a Text>
@@ -75,18 +63,16 @@ fn version_in(alloc: Global, bundle: &Bundle) -> Result<Version, Memory>
     }
 }
 
-/// The version of the bundle of this package and name, which has one.
-#[tactic(auto, unfolding(crate::specs::Order::version_named))]
+/// The version of the bundle that a table has under this name, which has one.
 pub(crate) fn version_named(
     alloc: Global,
-    bundles: &[Bundle],
-    owner: &Name,
+    table: &BTreeMap<Name, &Bundle>,
     name: &Name,
 ) -> Result<Version, Memory>
-    requires { IsSome (order.version_named bundles.now owner.now name.now) }
-    ensures { IfOk result (λ version. order.version_named bundles.now owner.now name.now ≡ Some (parts_of version)) }
+    requires { IsSome (option_and_then order.version_in (under table.now.entries name.now)) }
+    ensures { IfOk result (λ version. option_and_then order.version_in (under table.now.entries name.now) ≡ Some (parts_of version)) }
 {
-    match bundle_named(bundles, owner, name) {
+    match table.get(name).copied() {
         Some(bundle) => version_in(alloc, bundle),
         None => unreachable!(),
     }

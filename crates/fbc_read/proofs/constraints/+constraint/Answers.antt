@@ -1,10 +1,10 @@
-use Rattle.std.proofs.Common.{◌≡◌, ◌+◌, ◌<◌, ◌≤◌, Ok, map, ap, sym, subst, ◌∙◌, codes, arith}
+use Rattle.std.proofs.Common.{◌+◌, ◌<◌, ◌≤◌, map, sym, subst, codes, arith}
 use Rattle.serde_json.specs.Data.{depth}
 use Rattle.serde_json.specs.View.{view}
 use Rattle.olm_base.specs.Outcome.{Gives}
-use Rattle.fbc_read.specs.Faults.{is_free, item_step}
+use Rattle.json_fields.specs.Faults.{is_free, item_step}
 use Rattle.fbc_read.specs.Constraints.{constraint}
-use Rattle.fbc_read.proofs.Lists.{Reads, one_more, one_fault, at_item, below_ok, below_err}
+use Rattle.json_fields.proofs.Lists.{Reads, one_more, one_fault, at_item, below_ok, below_err}
 use Rattle.fbc_read.proofs.Depths.{fields_depth, list_depth, item_depth, all_depth}
 use Rattle.fbc_read.proofs.Nesting.{constraint_is}
 use Rattle.fbc_read.proofs.constraints.+constraint.Goals as goal

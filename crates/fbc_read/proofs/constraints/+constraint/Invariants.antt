@@ -2,7 +2,7 @@ use Rattle.std.proofs.Common.{◌+◌, ◌*◌, map}
 use Rattle.serde_json.specs.Data.{depth}
 use Rattle.serde_json.specs.View.{view}
 use Rattle.fbc_read.specs.Constraints.{constraint}
-use Rattle.fbc_read.proofs.Lists.{Reads}
+use Rattle.json_fields.proofs.Lists.{Reads}
 use Rattle.fbc_read.proofs.Depths.{all_depth}
 use Rattle.fbc_read.proofs.constraints.+constraint.Given as goal
 

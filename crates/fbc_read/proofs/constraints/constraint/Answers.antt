@@ -1,7 +1,7 @@
 use Rattle.std.proofs.Common.{sym, subst}
 use Rattle.serde_json.specs.View.{view}
 use Rattle.olm_base.specs.Outcome.{Gives}
-use Rattle.fbc_read.specs.Faults.{is_free}
+use Rattle.json_fields.specs.Faults.{is_free}
 use Rattle.fbc_read.proofs.Nesting.{constraint_is}
 use Rattle.fbc_read.proofs.constraints.constraint.Goals as goal
 

@@ -1,8 +1,8 @@
-use Rattle.std.proofs.Common.{◌≡◌, ◌+◌, ◌≤◌, ◌++◌, ◌∷◌, [], ℕ, List, Ok, Err, map, length, ap, sym, arith}
+use Rattle.std.proofs.Common.{◌≤◌, ◌++◌, ◌∷◌, [], map, length, ap, arith}
 use Rattle.serde_json.specs.View.{view}
-use Rattle.fbc_read.specs.Faults.{item_step}
+use Rattle.json_fields.specs.Faults.{item_step}
 use Rattle.fbc_read.specs.Properties.{any_property}
-use Rattle.fbc_read.proofs.Lists.{Reads, passed, passed_ok, passed_err, one_more, one_fault, all_read, after_none, at_item, past_items, below_ok, below_err}
+use Rattle.json_fields.proofs.Lists.{passed, passed_ok, passed_err, one_more, one_fault, all_read, after_none, at_item, past_items, below_ok, below_err}
 use Rattle.fbc_read.proofs.properties.check_properties.Goals as goal
 
 pub loop-index-init : goal.loop-index-init

@@ -1,7 +1,7 @@
 use Rattle.std.proofs.Common.{ℕ, List, map}
 use Rattle.serde_json.specs.View.{view}
 use Rattle.fbc_read.specs.Properties.{any_property}
-use Rattle.fbc_read.proofs.Lists.{Reads}
+use Rattle.json_fields.proofs.Lists.{Reads}
 use Rattle.fbc_read.proofs.properties.check_properties.Given as goal
 
 abbrev pub invariant-loop-index : goal.invariant-loop-index

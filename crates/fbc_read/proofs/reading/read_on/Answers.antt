@@ -1,12 +1,11 @@
-use Rattle.std.proofs.Common.{◌≡◌, ◌+◌, ◌<◌, ◌≤◌, Ok, Err, Some, Option, false, refl, ap, subst, ◌∙◌, arith, length}
+use Rattle.std.proofs.Common.{◌≡◌, ◌<◌, ◌≤◌, Ok, Err, Option, false, refl, ap, subst, ◌∙◌, arith, length}
 use Rattle.std.specs.Option.{IfSome}
-use Rattle.serde_json.specs.View.{view}
 use Rattle.catalog_stream.specs.declared.blobs.Blob.{Blob}
 use Rattle.catalog_stream.specs.Stream as stream
 use Rattle.catalog_stream.specs.Stream.{Takes, blobs_from, next_view, blob_view, place_after}
-use Rattle.fbc_read.specs.Faults as faults
+use Rattle.json_fields.specs.Faults as faults
 use Rattle.fbc_read.specs.Catalogs.{is_free}
-use Rattle.fbc_read.proofs.Along.{at_start, one_more, blob_fault}
+use Rattle.fbc_read.proofs.Along.{not_free, at_start, one_more, blob_fault}
 use Rattle.fbc_read.proofs.reading.read_on.Goals as goal
 
 pub blobs-init : goal.blobs-init
@@ -18,14 +17,14 @@ returns-in-Err-add_blob-clause-answer c =
     let rest = blobs_from c.blobs.blobs.text c.blobs.blobs.at in
     let later = blobs_from c.next.new.self.text c.next.new.self.at in
     let takes = subst (λ (found : Option Blob). Takes stream.is_free rest later (next_view (Ok found))) c.in-Ok-Some.field-0-is c.in-Ok-Some.ensures.takes in
-    let same = c.field_fault.ensures free in
-    let kept : faults.is_free c.in-Err-add_blob.fault ≡ false = ap is_free same ∙ free in
+    let same = c.field_fault.ensures.fault free in
+    let kept : faults.is_free c.in-Err-add_blob.fault ≡ false = not_free _ _ (λ m. ap is_free (c.field_fault.ensures.memory m)) free in
     blob_fault c.args.into.now c.args.first (blobs_from c.args.blobs.now.text c.args.blobs.now.at) rest later c.blobs.count c.blobs.into (blob_view c.in-Ok-Some.blob) c.in-Err-add_blob.fault
     c.blobs.invariant.along takes (c.in-Err-add_blob.ensures.answer kept)
     ∙ ap Err same
 
-pub blobs-preserved-in-Ok-3 : goal.blobs-preserved-in-Ok-3
-blobs-preserved-in-Ok-3 c =
+pub blobs-preserved : goal.blobs-preserved
+blobs-preserved c =
     let rest = blobs_from c.blobs.blobs.text c.blobs.blobs.at in
     let later = blobs_from c.next.new.self.text c.next.new.self.at in
     let takes = subst (λ (found : Option Blob). Takes stream.is_free rest later (next_view (Ok found))) c.in-Ok-Some.field-0-is c.in-Ok-Some.ensures.takes in

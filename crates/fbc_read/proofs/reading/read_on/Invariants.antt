@@ -1,4 +1,4 @@
-use Rattle.std.proofs.Common.{◌≡◌, ◌≤◌, ◌-◌, ℕ, length}
+use Rattle.std.proofs.Common.{◌-◌, length}
 use Rattle.catalog_stream.specs.Stream.{blobs_from}
 use Rattle.fbc_read.proofs.Along.{Along, Goes}
 use Rattle.fbc_read.proofs.reading.read_on.Given as goal

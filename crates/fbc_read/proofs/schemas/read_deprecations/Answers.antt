@@ -1,8 +1,8 @@
 use Rattle.std.proofs.Common.{◌+◌, map, sym, subst}
 use Rattle.serde_json.specs.View.{view}
-use Rattle.fbc_read.specs.Faults.{item_step}
+use Rattle.json_fields.specs.Faults.{item_step}
 use Rattle.fbc_read.specs.Blobs.{deprecation}
-use Rattle.fbc_read.proofs.Lists.{Reads, one_more, one_fault, at_item, below_ok, below_err}
+use Rattle.json_fields.proofs.Lists.{Reads, one_more, one_fault, at_item, below_ok, below_err}
 use Rattle.fbc_read.proofs.schemas.read_deprecations.Goals as goal
 
 pub returns-in-Err : goal.returns-in-Err

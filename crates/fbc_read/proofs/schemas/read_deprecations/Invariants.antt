@@ -1,7 +1,7 @@
 use Rattle.std.proofs.Common.{map}
 use Rattle.serde_json.specs.View.{view}
 use Rattle.fbc_read.specs.Blobs.{deprecation}
-use Rattle.fbc_read.proofs.Lists.{Reads}
+use Rattle.json_fields.proofs.Lists.{Reads}
 use Rattle.fbc_read.proofs.schemas.read_deprecations.Given as goal
 
 abbrev pub invariant-loop-index : goal.invariant-loop-index

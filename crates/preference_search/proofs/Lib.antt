@@ -1,0 +1,14 @@
+pub mod Before
+pub mod Denying
+pub mod Passing
+pub mod Trying
+pub mod Measure
+pub mod Hints
+pub mod Logs
+pub mod Full
+pub mod Members
+pub mod Giving
+pub mod Opening
+pub mod Turning
+pub mod Going
+pub mod Ending

@@ -1,0 +1,23 @@
+use Rattle.std.proofs.Common.{◌≡◌, ◌<◌, sym, ap, ◌∙◌, ◌++◌, ◌∷◌, [], true, take, get_or, length, arith}
+use Rattle.std.proofs.lemmas.List.{take_more, length-set}
+use Rattle.op_constraints.specs.Meets.{at}
+use Rattle.op_constraints.specs.Walks.{is_among}
+use Rattle.op_constraints.proofs.Standing.{at-add}
+use Rattle.op_constraints.proofs.Testing.{all-at}
+use Rattle.preference_search.proofs.sets.set_of.Goals as goal
+
+pub loop-var-preserved : goal.loop-var-preserved
+loop-var-preserved c =
+    let vars = c.args.vars.now in
+    let bits = c.loop-var.set in
+    let i = c.loop-var.var-index in
+    let v = c.var-item.result in
+    let in' = c.loop-var-test.true in
+    let less : get_or vars i v < length c.args.problem.now = all-at (λ u. u < length c.args.problem.now) vars i v in' c.requires in
+    let is : v ≡ get_or vars i v = c.var-item.is in
+    let size : length bits ≡ length c.args.problem.now = c.loop-var.invariant.size in
+    record {
+      size = ap length c.add.ensures ∙ (length-set bits v true ∙ size);
+      same = ap at c.add.ensures ∙ (at-add bits (take i vars) v (omega (arith, less, is, size)) c.loop-var.invariant.same
+          ∙ ap is_among (ap (λ u. take i vars ++ u ∷ []) is ∙ sym (take_more vars i v in')));
+    }

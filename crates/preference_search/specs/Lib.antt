@@ -1,0 +1,7 @@
+pub mod Decided
+pub mod Denials
+pub mod Pairs
+pub mod Lists
+pub mod Searching
+pub mod State
+pub mod Tests

@@ -10,7 +10,7 @@ use crate::packages::{has_channel_named, has_package};
 use fbc_types::{Channel, CheckFault, Entry, Package};
 use olm_base::{Memory, Name};
 use std::alloc::Global;
-use upgrade_graph::{is_head, main_chain, skips};
+use upgrade_graph::{main_chain, skips, takes_over};
 
 fn note_repeated(
     faults: &mut Vec<CheckFault>,
@@ -34,6 +34,18 @@ pub(crate) fn repeated_channels(
         note_repeated(faults, &channels[..index], blob)?;
     }
     Ok(())
+}
+
+fn is_taken_over(entries: &[Entry], name: &Name) -> bool
+    ensures { result ≡ list_any (spec.takes_over name.now) entries.now }
+{
+    entries.iter().any(|entry| takes_over(name, entry))
+}
+
+fn is_head(entries: &[Entry], entry: &Entry) -> bool
+    ensures { result ≡ spec.is_head entries.now entry.now }
+{
+    !is_taken_over(entries, &entry.name)
 }
 
 fn count_heads(entries: &[Entry]) -> usize

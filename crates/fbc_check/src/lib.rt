@@ -10,6 +10,8 @@ mod checking;
 mod entries;
 mod notes;
 mod packages;
+#[cfg(test)]
+mod tests;
 mod texts;
 
 pub use checking::{CheckRefusal, check};

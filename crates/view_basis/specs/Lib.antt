@@ -1,0 +1,4 @@
+pub mod Bodies
+pub mod Visible
+pub mod Tips
+pub mod Basis

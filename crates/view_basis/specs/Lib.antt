@@ -2,3 +2,4 @@ pub mod Bodies
 pub mod Visible
 pub mod Tips
 pub mod Basis
+pub mod Sources

@@ -14,7 +14,7 @@ use Rattle.view_basis.specs.Tips.{kind_of}
 same_self : (text : List ℕ) → same text text ≡ true
 same_self text = nat_list_eq_equiv.refl text
 
-same_is : (text other : List ℕ) → same text other ≡ true → text ≡ other
+pub same_is : (text other : List ℕ) → same text other ≡ true → text ≡ other
 same_is [] [] h = refl
 same_is [] (other ∷ others) h = absurd (let bad : false ≡ true = h in cc)
 same_is (byte ∷ bytes) [] h = absurd (let bad : false ≡ true = h in cc)

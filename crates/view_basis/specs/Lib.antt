@@ -3,3 +3,4 @@ pub mod Visible
 pub mod Tips
 pub mod Basis
 pub mod Sources
+pub mod Laws

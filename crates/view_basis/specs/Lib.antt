@@ -1,0 +1,6 @@
+pub mod Bodies
+pub mod Visible
+pub mod Tips
+pub mod Basis
+pub mod Sources
+pub mod Laws

@@ -5,7 +5,6 @@ use Rattle.derivations.specs.declared.Certificate.{Certificate}
 use Rattle.derivations.specs.declared.Finding.{Finding}
 use Rattle.derivations.specs.declared.Finding.TheVariants as findings
 use Rattle.derivations.specs.Reading.{certificate_of as read_of}
-use Rattle.derivation_check.specs.declared.Verdict.{Verdict}
 use Rattle.derivation_check.specs.declared.Verdict.TheVariants as verdicts
 use Rattle.derivation_check.specs.Faults.{unless, first_fault, verdict_of}
 use Rattle.derivation_check.specs.Laws.{NoFaultIsAccepted}
@@ -13,7 +12,7 @@ use Rattle.preference_search.specs.declared.Decision.{Decision}
 use Rattle.preference_search.specs.declared.Decision.TheVariants.{Chosen, Refused, Undecided}
 use Rattle.preference_search.specs.Decided.{FindsWalk, FindsNone, FindsNothing, IsDecision, IsFair}
 use Rattle.answer_lines.specs.Answers.{certificate_of, shown}
-use Rattle.answer_lines.specs.Verdicts.{verified, judged, checked, read_and_judged, accepted_line, verdict_text}
+use Rattle.answer_lines.specs.Verdicts.{verified, checked, read_and_judged, accepted_line, verdict_text}
 
 walk-shown : (certificate : Certificate) (finding : Finding) (numbers : List ℕ) → FindsWalk finding numbers → verdict_of certificate finding ≡ verdicts.Chosen (length numbers)
 walk-shown certificate (findings.Chosen own steps) numbers same = ap (λ walk. verdicts.Chosen (length walk)) same

@@ -1,5 +1,5 @@
 -- A certificate that was read is as short as its text.
-use Rattle.std.proofs.Common.{ℕ, ◌≤◌, length, arith}
+use Rattle.std.proofs.Common.{◌≤◌, length, arith}
 use Rattle.derivations.specs.declared.Finding.{Finding}
 use Rattle.derivations.specs.declared.Finding.TheVariants.{Chosen, Refused, Undecided}
 use Rattle.derivations.specs.Laws.{entries}

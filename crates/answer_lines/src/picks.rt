@@ -1,5 +1,5 @@
 // The lines of what a decision picks.
-ghost use Rattle.std.specs.Prelude.{◌≡◌, ◌∷◌, ◌++◌, OnOk};
+ghost use Rattle.std.specs.Prelude.{◌≡◌, ◌++◌, OnOk};
 ghost use Rattle.answer_lines.specs.declared.Pick.TheVariants.{Take, Keep};
 ghost use Rattle.answer_lines.specs.Picks as spec;
 

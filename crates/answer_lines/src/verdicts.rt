@@ -1,5 +1,5 @@
 // What is printed of a text that is to be a certificate of a problem.
-ghost use Rattle.std.specs.Prelude.{◌≡◌, ◌↔◌, ℕ, ◌<◌, ◌^◌, false, List, ◌++◌, length, IfOk, IsTrue};
+ghost use Rattle.std.specs.Prelude.{◌≡◌, ◌↔◌, ◌<◌, ◌^◌, false, length, IfOk, IsTrue};
 ghost use Rattle.op_constraints.specs.Meets.{IsClosed};
 ghost use Rattle.derivations.specs.Accepted.{IsAccepted};
 ghost use Rattle.derivations.specs.Laws.{IsRight};

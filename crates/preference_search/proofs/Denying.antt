@@ -126,7 +126,7 @@ among-pushed (w ∷ ws) m v e =
       ]
     ]
 
-unnamed-denied : (vs : List ℕ) (m : ℕ) (lits : List Lit) → is_in lits (negative m) ≡ false → is_denied (is_among (vs ++ m ∷ [])) lits ≡ true → is_denied (is_among vs) lits ≡ true
+pub unnamed-denied : (vs : List ℕ) (m : ℕ) (lits : List Lit) → is_in lits (negative m) ≡ false → is_denied (is_among (vs ++ m ∷ [])) lits ≡ true → is_denied (is_among vs) lits ≡ true
 unnamed-denied vs m [] n d = refl
 unnamed-denied vs m (l ∷ ls) n d =
     let parts = and_parts (not l.positive && is_among (vs ++ m ∷ []) l.var) (is_denied (is_among (vs ++ m ∷ [])) ls) d in

@@ -42,7 +42,7 @@ begun problem budget log numbers chosen bits steps closed l n c s size same =
       passed = record { complete = refl; each = tt };
       none_before = none-begun problem;
       tried = tried-begun problem (0 ∷ []);
-      allowed = λ before v k ks _ e. absurd (no-last ks k e);
+      undenied = λ before v k ks _ e. absurd (no-last ks k e);
     }))
 
 -- the walk was found

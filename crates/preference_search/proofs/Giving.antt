@@ -139,7 +139,7 @@ conflict-allowed set v o h = λ named clause given. allowed named clause given
         both_ways (set v && set o) h (and_from (set v) (set o) parts.0 other.0)))
     allowed (x ∷ xs) clause given = absurd (let bad : None ≡ Some clause = given in cc)
 
-named-clause : (b : Bool) (xs ys : List Lit) → cond b (Some xs) None ≡ Some ys → (b ≡ true) × (xs ≡ ys)
+pub named-clause : (b : Bool) (xs ys : List Lit) → cond b (Some xs) None ≡ Some ys → (b ≡ true) × (xs ≡ ys)
 named-clause true xs ys e = (refl, (let same : xs ≡ ys = cc in same))
 named-clause false xs ys e = absurd (let bad : None ≡ Some ys = e in cc)
 

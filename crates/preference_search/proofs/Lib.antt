@@ -12,3 +12,5 @@ pub mod Opening
 pub mod Turning
 pub mod Going
 pub mod Ending
+pub mod Indexing
+pub mod Arriving

@@ -1,26 +1,28 @@
 -- What a search keeps as it takes a number, goes back, and denies a walk.
-use Rattle.std.proofs.Common.{◌≡◌, ℕ, zero, suc, ◌+◌, ◌≤◌, ◌<◌, Bool, true, false, cond, List, [], ◌∷◌, ◌++◌, length, map, take, drop, get_or, set, refl, sym, ap, ◌∙◌, subst, arith, inl, inr, Some, None, slice_get, append_assoc}
+use Rattle.std.proofs.Common.{◌≡◌, ℕ, zero, suc, ◌+◌, ◌≤◌, ◌<◌, ◌==◌, Bool, true, false, cond, List, [], ◌∷◌, ◌++◌, length, map, take, drop, get_or, set, refl, sym, ap, ◌∙◌, subst, arith, inl, inr, Some, None, slice_get, append_assoc}
 use Rattle.std.specs.List.{AllByRecursion}
-use Rattle.std.proofs.lemmas.Bool.{cases_Bool, cond-true, cond-false}
+use Rattle.std.proofs.lemmas.Bool.{cases_Bool, or_cases, and_parts, both_ways, false_from_ne_true, eqb-true, cond-true, cond-false}
 use Rattle.std.proofs.lemmas.List.{length-append, get_or_default}
 use Rattle.op_constraints.specs.declared.Constraint.{Constraint}
 use Rattle.op_constraints.specs.declared.TheConstants.{VAR_LIMIT}
 use Rattle.op_constraints.specs.Walks.{is_among, mandatory, waiting, member, walk, IsBefore, IsWide, FirstSucceeds}
 use Rattle.op_constraints.specs.WalkInvariant.{Stands}
-use Rattle.op_constraints.proofs.WalkLaws.{among_append_left}
+use Rattle.op_constraints.proofs.WalkLaws.{among_append_left, among_push}
+use Rattle.op_constraints.proofs.Standing.{distinct-pop}
+use Rattle.op_constraints.specs.Kept.{is_distinct}
 use Rattle.op_constraints.proofs.Steps.{walk-pop}
 use Rattle.op_constraints.proofs.Taking.{stands-take, stands-back, picked-new}
 use Rattle.derivations.specs.declared.Hint.{Hint}
 use Rattle.derivations.specs.declared.Lemma.{Lemma}
 use Rattle.derivations.specs.declared.Refutation.{Refutation}
 use Rattle.derivations.specs.Clauses.{negative, is_in}
-use Rattle.derivations.specs.Follows.{Follows}
+use Rattle.derivations.specs.Follows.{clauses, Follows}
 use Rattle.derivations.specs.Accepted.{Refutes}
-use Rattle.preference_search.specs.Denials.{is_denied, IsDenial, AllowsSet, NoLemmaDenies}
+use Rattle.preference_search.specs.Denials.{is_denied, IsDenial, IsUndenied}
 use Rattle.preference_search.specs.Lists.{IsNext}
-use Rattle.preference_search.specs.Searching.{ArePassedOver, NoneBefore, HasTried, IsLog, IsAt, IsTrying}
+use Rattle.preference_search.specs.Searching.{ArePassedOver, NoneBefore, HasTried, IsLog, IsUndeniedBefore, IsAt, IsTrying}
 use Rattle.preference_search.proofs.Before.{before-number}
-use Rattle.preference_search.proofs.Denying.{allowed-less, denial-without, denial-refutes}
+use Rattle.preference_search.proofs.Denying.{undenied-less, allowed-less, denial-without, denial-refutes}
 use Rattle.preference_search.proofs.Passing.{snoc-same, all-snoc, all-unsnoc, LastStep, passed-down, passed-next, passed-grows, passed-cut, steps-enough}
 use Rattle.preference_search.proofs.Trying.{none-down, none-next, none-up, first-fails, tried-enter, tried-later, tried-wide}
 use Rattle.preference_search.proofs.Logs.{all-denied, log-push, last-denies}
@@ -67,26 +69,26 @@ at-taken problem budget log numbers chosen bits steps k v owner place members t 
           let sum : (length log + length numbers) + 1 ≡ length log + length (numbers ++ k ∷ []) = omega (arith, one) in
           let P : ℕ → Type 0 = λ i. HasTried problem ((numbers ++ k ∷ []) ++ 0 ∷ []) i in
           subst P sum (tried-enter problem numbers (chosen ++ v ∷ []) k (length log + length numbers) t.tried stands.walked t.none_before));
-      allowed = λ before w j ks c e.
+      undenied = λ before w j ks c e.
           let same = snoc-same chosen before v w c in
-          let P : List ℕ → Type 0 = λ vs. AllowsSet problem (is_among vs) in
-          subst P same.0 t.allowed;
+          let P : List ℕ → Type 0 = λ vs. IsUndenied problem log (is_among vs) in
+          subst P same.0 t.undenied;
     }
 
 -- a choice begins
 pub trying-begun : (problem : List (List Constraint)) (budget : ℕ) (log : List Lemma) (numbers chosen : List ℕ) (bits : List Bool) (steps : List (ℕ × ℕ × Refutation)) (owner place : ℕ) (members : List ℕ)
     → IsAt problem budget log numbers chosen bits steps 0 (length log + length numbers)
     → IsNext problem chosen owner place members
-    → AllowsSet problem (is_among chosen)
+    → IsUndenied problem log (is_among chosen)
     → IsTrying problem budget log numbers chosen bits steps 0
-trying-begun problem budget log numbers chosen bits steps owner place members a n allowed = record {
+trying-begun problem budget log numbers chosen bits steps owner place members a n undenied = record {
   stands = a.stands;
   small = a.small;
   sound = a.sound;
   passed = passed-down problem log numbers steps a.passed;
   none_before = none-down problem numbers chosen members n.rest a.none_before a.stands.walked n.waits;
   tried = a.tried;
-  allowed = allowed;
+  undenied = undenied;
 }
 
 -- Back
@@ -114,6 +116,13 @@ stood-before problem bits end numbers ks chosen k v s e c =
 among-before : (chosen : List ℕ) (v u : ℕ) → is_among chosen u ≡ true → is_among (chosen ++ v ∷ []) u ≡ true
 among-before chosen v u h = among_append_left chosen (v ∷ []) u h
 
+undenied-fewer : (problem : List (List Constraint)) (log : List Lemma) (f g : ℕ → Bool) → ((v : ℕ) → g v ≡ true → f v ≡ true) → IsUndenied problem log f → IsUndenied problem log g
+undenied-fewer problem log f g h u = record { given = allowed-less problem f g h u.given; lemmas = less (clauses log) u.lemmas }
+  where
+    less : (cs : List (List Lit)) → AllByRecursion (λ clause. is_denied f clause ≡ false) cs → AllByRecursion (λ clause. is_denied g clause ≡ false) cs
+    less [] a = tt
+    less (c ∷ cs) a = (undenied-less f g c h a.0, less cs a.1)
+
 -- the denied walk is left for the one before it, at whose choice the next candidate is to be tried, or for one that the same clause denies
 record Gone (problem : List (List Constraint)) (budget : ℕ) (log : List Lemma) (numbers chosen : List ℕ) (bits : List Bool) (steps : List (ℕ × ℕ × Refutation)) (k v : ℕ) : Type 0 where
   stands : Stands problem bits chosen numbers
@@ -123,7 +132,7 @@ record Gone (problem : List (List Constraint)) (budget : ℕ) (log : List Lemma)
   passed : ArePassedOver problem log (numbers ++ k ∷ []) steps
   none_before : NoneBefore problem (numbers ++ (k + 1) ∷ [])
   tried : HasTried problem (numbers ++ (k + 1) ∷ []) (length log + length numbers)
-  allowed : AllowsSet problem (is_among chosen)
+  undenied : IsUndenied problem log (is_among chosen)
   left : Left problem numbers chosen k v
 
 gone : (problem : List (List Constraint)) (budget : ℕ) (log : List Lemma) (numbers ks end chosen : List ℕ) (bits : List Bool) (steps : List (ℕ × ℕ × Refutation)) (k v after count : ℕ) (d : Refutation)
@@ -153,7 +162,7 @@ gone problem budget log numbers ks end chosen bits steps k v after count d a eno
       passed = subst Q e a.passed;
       none_before = none-next problem log ks end k d (subst R e a.none_before) a.sound.follows walked (denial-refutes problem log end d i);
       tried = tried-later problem ((ks ++ k ∷ []) ++ after ∷ []) (ks ++ (k + 1) ∷ []) count (length log + length ks) (subst T e a.tried) later (let size = ap length e in omega (arith, one, enough, size));
-      allowed = a.allowed chosen v k ks c e;
+      undenied = a.undenied chosen v k ks c e;
       left = left-from problem numbers ks end chosen k v a.stands.walked e c;
     }
 
@@ -178,7 +187,7 @@ trying-next problem budget log numbers ks end chosen bits steps k v after count 
       passed = subst Q (sym size) (passed-next problem log ks chosen k v steps d g.passed g.left.walked g.left.offered (subst P c i) named);
       none_before = g.none_before;
       tried = g.tried;
-      allowed = g.allowed;
+      undenied = g.undenied;
     }
 
 -- a number was small
@@ -215,9 +224,9 @@ back-denied problem budget log numbers ks end chosen bits steps k v after count 
         passed = passed-cut problem log ks k n steps g.passed size;
         none_before = none-up problem ks ((k + 1) ∷ []) g.none_before;
         tried = g.tried;
-        allowed = λ before u j js c' e'.
-            allowed-less problem (is_among chosen) (is_among before)
-            (λ w h. subst (λ (vs : List ℕ). is_among vs w ≡ true) (sym c') (among-before before u w h)) g.allowed;
+        undenied = λ before u j js c' e'.
+            undenied-fewer problem log (is_among chosen) (is_among before)
+            (λ w h. subst (λ (vs : List ℕ). is_among vs w ≡ true) (sym c') (among-before before u w h)) g.undenied;
       };
       denial = denial-without problem log chosen v d unnamed (subst P c i);
     }
@@ -279,21 +288,47 @@ pub closed-at : (problem : List (List Constraint)) (budget : ℕ) (log : List Le
     → ArePassedOver problem log numbers steps
     → NoneBefore problem (numbers ++ n ∷ [])
     → HasTried problem (numbers ++ n ∷ []) count
-    → AllowsSet problem (is_among chosen)
+    → IsUndeniedBefore problem log chosen numbers
     → IsAt problem budget log numbers chosen bits steps n count
-closed-at problem budget log numbers chosen bits steps n count stands small sound passed none tried allowed = record {
+closed-at problem budget log numbers chosen bits steps n count stands small sound passed none tried undenied = record {
   stands = stands;
   small = small;
   sound = sound;
   passed = passed;
   none_before = none-up problem numbers (n ∷ []) none;
   tried = tried;
-  allowed = λ before u j js c e.
-      allowed-less problem (is_among chosen) (is_among before)
-      (λ w h. subst (λ (vs : List ℕ). is_among vs w ≡ true) (sym c) (among-before before u w h)) allowed;
+  undenied = undenied;
 }
 
-last-number : (numbers : List ℕ) → 0 < length numbers → (ks : List ℕ) × (k : ℕ) × (numbers ≡ ks ++ k ∷ [])
+-- what is in the set of a denied clause of denials
+denied-each : (set : ℕ → Bool) (vs : List ℕ) (v : ℕ) → is_denied set (map negative vs) ≡ true → is_among vs v ≡ true → set v ≡ true
+denied-each set [] v d i = absurd (both_ways false refl i)
+denied-each set (w ∷ ws) v d i =
+    let parts = and_parts (set w) (is_denied set (map negative ws)) d in
+    elim (or_cases (w == v) (is_among ws v) i) [
+      | inl same ↦ ap set (sym (eqb-true w v same)) ∙ parts.0
+      | inr later ↦ denied-each set ws v parts.1 later
+    ]
+
+all-clauses-push : (P : List Lit → Type 0) (log : List Lemma) (lemma : Lemma) → AllByRecursion P (clauses log) → P lemma.lits → AllByRecursion P (clauses (log ++ lemma ∷ []))
+all-clauses-push P [] lemma a p = (p, tt)
+all-clauses-push P (l ∷ ls) lemma a p = (a.0, all-clauses-push P ls lemma a.1 p)
+
+-- a walk's own lemma doesn't deny what was chosen before its last number
+undenied-learnt : (problem : List (List Constraint)) (log : List Lemma) (numbers chosen : List ℕ) (hints : List Hint) → is_distinct chosen ≡ true → IsUndenied problem log (is_among chosen) → IsUndeniedBefore problem (log ++ record { lits = map negative chosen; hints = hints } ∷ []) chosen numbers
+undenied-learnt problem log numbers chosen hints once u = λ before v j js c e.
+    let less : (w : ℕ) → is_among before w ≡ true → is_among chosen w ≡ true =
+    (λ w h. subst (λ (vs : List ℕ). is_among vs w ≡ true) (sym c) (among-before before v w h)) in
+    let fewer = undenied-fewer problem log (is_among chosen) (is_among before) less u in
+    let (_, gone) = distinct-pop before v (ap is_distinct (sym c) ∙ once) in
+    let last : is_among chosen v ≡ true = ap (λ vs. is_among vs v) c ∙ among_push before v in
+    record {
+      given = fewer.given;
+      lemmas = all-clauses-push (λ clause. is_denied (is_among before) clause ≡ false) log (record { lits = map negative chosen; hints = hints }) fewer.lemmas
+          (false_from_ne_true (is_denied (is_among before) (map negative chosen)) (λ d. both_ways (is_among before v) gone (denied-each (is_among before) chosen v d last)));
+    }
+
+pub last-number : (numbers : List ℕ) → 0 < length numbers → (ks : List ℕ) × (k : ℕ) × (numbers ≡ ks ++ k ∷ [])
 last-number [] h = absurd (omega arith)
 last-number (k ∷ []) h = ([], k, refl)
 last-number (k ∷ j ∷ js) h = let (ks, i, e) = last-number (j ∷ js) (omega arith) in (k ∷ ks, i, ap (λ ns. k ∷ ns) e)
@@ -354,8 +389,7 @@ pub closed-learnt : (problem : List (List Constraint)) (budget : ℕ) (log later
     → ArePassedOver problem log numbers steps
     → NoneBefore problem (numbers ++ n ∷ [])
     → HasTried problem (numbers ++ n ∷ []) (length log + length numbers)
-    → AllowsSet problem (is_among chosen)
-    → NoLemmaDenies log (at bits)
+    → IsUndenied problem log (is_among chosen)
     → r.lits ≡ map negative chosen
     → Follows problem log r.lits r.hints
     → length log < budget
@@ -366,17 +400,16 @@ pub closed-learnt : (problem : List (List Constraint)) (budget : ℕ) (log later
     → d.lits ≡ lits
     → d.hints ≡ LemmaHint number ∷ []
     → IsLearnt problem budget later numbers chosen bits steps n d
-closed-learnt problem budget log later numbers chosen bits steps n number lits hints r d stands small sound passed none tried allowed new full follows more same_lits same_hints is numbered d_lits d_hints =
+closed-learnt problem budget log later numbers chosen bits steps n number lits hints r d stands small sound passed none tried undenied full follows more same_lits same_hints is numbered d_lits d_hints =
     let lemma : Lemma = record { lits = map negative chosen; hints = r.hints } in
     let wanted : List Lemma = log ++ lemma ∷ [] in
     let P : List Lemma → Type 0 = λ l. IsLearnt problem budget l numbers chosen bits steps n d in
     let parts : later ≡ wanted = is ∙ (ap (λ ls. log ++ record { lits = ls; hints = hints } ∷ []) (same_lits ∙ full) ∙ ap (λ hs. log ++ record { lits = map negative chosen; hints = hs } ∷ []) same_hints) in
     let F : List Lit → Type 0 = λ ls. Follows problem log ls r.hints in
-    let N : (ℕ → Bool) → Type 0 = λ f. NoLemmaDenies log f in
-    let next = log-push problem budget log chosen r.hints sound more allowed (subst N stands.same new) (subst F full follows) in
+    let next = log-push problem budget log chosen r.hints sound more undenied.given undenied.lemmas (subst F full follows) in
     subst P (sym parts) (record {
       count = length log + length numbers;
-      here = closed-at problem budget wanted numbers chosen bits steps n (length log + length numbers) stands small next (passed-grows problem log lemma numbers steps passed) none tried allowed;
+      here = closed-at problem budget wanted numbers chosen bits steps n (length log + length numbers) stands small next (passed-grows problem log lemma numbers steps passed) none tried (undenied-learnt problem log numbers chosen r.hints stands.once undenied);
       enough = (let size = length-append log (lemma ∷ []) in omega (arith, size));
       denial = last-denies problem log chosen r.hints number d stands.within stands.once numbered (d_lits ∙ (same_lits ∙ full)) d_hints;
     })

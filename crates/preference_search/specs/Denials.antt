@@ -40,6 +40,11 @@ AllowsSet problem set = (v place : ℕ) (c : Constraint) → constraint_at probl
 abbrev pub NoLemmaDenies : List Lemma → (ℕ → Bool) → Type 0
 NoLemmaDenies log set = AllByRecursion (λ clause. is_denied set clause ≡ false) (clauses log)
 
+-- no given clause and no lemma denies the set
+pub record IsUndenied (problem : List (List Constraint)) (log : List Lemma) (set : ℕ → Bool) : Type 0 where
+  pub given : AllowsSet problem set
+  pub lemmas : NoLemmaDenies log set
+
 -- the denial is by a clause that this constraint of the variable gives, with each variable once
 pub record IsGivenDenial (set : ℕ → Bool) (v place : ℕ) (c : Constraint) (denial : Refutation) : Type 0 where
   pub named : List ℕ

@@ -5,3 +5,4 @@ pub mod Lists
 pub mod Searching
 pub mod State
 pub mod Tests
+pub mod Naming

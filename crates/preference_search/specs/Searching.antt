@@ -10,7 +10,7 @@ use Rattle.derivations.specs.declared.Refutation.{Refutation}
 use Rattle.derivations.specs.Clauses.{negative, is_in}
 use Rattle.derivations.specs.Follows.{clauses, LogFollows}
 use Rattle.derivations.specs.Accepted.{pairs_from, IsIrredundant}
-use Rattle.preference_search.specs.Denials.{IsDenial, AllowsSet}
+use Rattle.preference_search.specs.Denials.{IsDenial, IsUndenied}
 
 -- a candidate that was passed over: with all that was chosen before it, it is denied by a clause that names it
 pub record IsPassedOver (problem : List (List Constraint)) (log : List Lemma) (numbers : List ℕ) (step : ℕ × ℕ × Refutation) : Type 0 where
@@ -45,6 +45,11 @@ pub record IsLog (problem : List (List Constraint)) (budget : ℕ) (log : List L
   pub irredundant : IsIrredundant problem [] (clauses log)
   pub within : length log ≤ budget
 
+-- no given clause and no lemma denies what was chosen before the last number
+abbrev pub IsUndeniedBefore : List (List Constraint) → List Lemma → List ℕ → List ℕ → Type 0
+IsUndeniedBefore problem log chosen numbers =
+    (before : List ℕ) (v k : ℕ) (ks : List ℕ) → chosen ≡ before ++ v ∷ [] → numbers ≡ ks ++ k ∷ [] → IsUndenied problem log (is_among before)
+
 -- at a partial walk: the earlier candidates are passed over, and at least so many partial walks were tried
 pub record IsAt (problem : List (List Constraint)) (budget : ℕ) (log : List Lemma) (numbers chosen : List ℕ) (bits : List Bool) (steps : List (ℕ × ℕ × Refutation)) (after count : ℕ) : Type 0 where
   pub stands : Stands problem bits chosen numbers
@@ -53,7 +58,7 @@ pub record IsAt (problem : List (List Constraint)) (budget : ℕ) (log : List Le
   pub passed : ArePassedOver problem log numbers steps
   pub none_before : NoneBefore problem numbers
   pub tried : HasTried problem (numbers ++ after ∷ []) count
-  pub allowed : (before : List ℕ) (v k : ℕ) (ks : List ℕ) → chosen ≡ before ++ v ∷ [] → numbers ≡ ks ++ k ∷ [] → AllowsSet problem (is_among before)
+  pub undenied : IsUndeniedBefore problem log chosen numbers
 
 -- at a partial walk, of whose choice the first candidates are passed over; each lemma has a partial walk of its own, and so has each one on the way here
 pub record IsTrying (problem : List (List Constraint)) (budget : ℕ) (log : List Lemma) (numbers chosen : List ℕ) (bits : List Bool) (steps : List (ℕ × ℕ × Refutation)) (number : ℕ) : Type 0 where
@@ -63,4 +68,4 @@ pub record IsTrying (problem : List (List Constraint)) (budget : ℕ) (log : Lis
   pub passed : ArePassedOver problem log (numbers ++ number ∷ []) steps
   pub none_before : NoneBefore problem (numbers ++ number ∷ [])
   pub tried : HasTried problem (numbers ++ number ∷ []) (length log + length numbers)
-  pub allowed : AllowsSet problem (is_among chosen)
+  pub undenied : IsUndenied problem log (is_among chosen)

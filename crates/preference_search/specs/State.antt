@@ -14,7 +14,7 @@ use Rattle.preference_search.specs.declared.search.Turn.{Turn}
 use Rattle.preference_search.specs.declared.search.Turn.TheVariants.{Onward, Found, Refused, Spent}
 use Rattle.preference_search.specs.declared.search.Pass.{Pass}
 use Rattle.preference_search.specs.declared.search.Pass.TheVariants.{Denied, Turned}
-use Rattle.preference_search.specs.Denials.{IsDenial, AllowsSet}
+use Rattle.preference_search.specs.Denials.{IsDenial, AllowsSet, IsUndenied}
 use Rattle.preference_search.specs.Searching.{ArePassedOver, NoneBefore, HasTried, IsLog, IsAt, IsTrying}
 
 abbrev pub At : List (List Constraint) → ℕ → Search → Type 0
@@ -32,7 +32,7 @@ pub record IsClosing (problem : List (List Constraint)) (budget : ℕ) (s : Sear
   pub passed : ArePassedOver problem s.log.lemmas s.numbers.items s.steps.items
   pub none_before : NoneBefore problem (s.numbers.items ++ number ∷ [])
   pub tried : HasTried problem (s.numbers.items ++ number ∷ []) (length s.log.lemmas + length s.numbers.items)
-  pub allowed : AllowsSet problem (is_among s.chosen.items)
+  pub undenied : IsUndenied problem s.log.lemmas (is_among s.chosen.items)
   pub lits : refutation.lits ≡ map negative s.chosen.items
   pub follows : Follows problem s.log.lemmas refutation.lits refutation.hints
 

@@ -5,6 +5,7 @@ ghost use Rattle.preference_search.specs.Decided.{IsDecision};
 ghost use Rattle.preference_search.specs.State.{IsFound, IsRefuted, IsSpent};
 
 use crate::Decision;
+use crate::naming::places_of;
 use crate::search::{Search, Turn};
 use crate::sets::set_of;
 use derivations::{Certificate, Finding, Refutation};
@@ -38,7 +39,7 @@ fn chosen(alloc: Global, budget: u32, problem: &Problem, search: Search) -> Resu
     } = search;
     let certificate = Certificate {
         vars: problem.len() as u32,
-        log,
+        log: log.into_log(),
         finding: Finding::Chosen {
             walk: Many::from_vec(numbers),
             refutations: Many::from_vec(steps),
@@ -66,7 +67,7 @@ fn refused(budget: u32, problem: &Problem, search: Search, refutation: Refutatio
     Decision::Refused {
         certificate: Certificate {
             vars: problem.len() as u32,
-            log,
+            log: log.into_log(),
             finding: Finding::Refused { refutation },
         },
     }
@@ -87,7 +88,7 @@ fn undecided(budget: u32, problem: &Problem, search: Search) -> Decision
     Decision::Undecided {
         certificate: Certificate {
             vars: problem.len() as u32,
-            log,
+            log: log.into_log(),
             finding: Finding::Undecided,
         },
     }
@@ -96,15 +97,16 @@ fn undecided(budget: u32, problem: &Problem, search: Search) -> Decision
 /// Decides the problem by going through the partial walks in their order, with no more lemmas than the budget.
 ///
 /// A lemma is made of each partial walk that is denied and holds neither a given clause nor an earlier lemma.
-/// Each partial walk costs what the problem's constraints, the lists of all that is chosen and the log cost to go through.
+/// Each partial walk costs what the constraints that name its last variable, the lemmas that do, and the lists of all that is chosen cost to go through.
 pub fn decide_plain(alloc: Global, problem: &Problem, budget: u32) -> Result<Decision, Memory>
     requires { IsClosed problem.now }
     ensures { IfOk result (λ decision. IsDecision problem.now budget decision) }
 {
     let _count = problem.len();
+    let places = places_of(alloc, problem)?;
     let mut search = Search::new(alloc, problem)?;
     loop {
-        match search.turn(alloc, budget, problem)? {
+        match search.turn(alloc, budget, problem, &places)? {
             Turn::Onward => {}
             Turn::Found => return chosen(alloc, budget, problem, search),
             Turn::Refused(refutation) => return Ok(refused(budget, problem, search, refutation)),

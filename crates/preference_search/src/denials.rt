@@ -1,17 +1,21 @@
 // What denies the set of things that were chosen: a clause of the problem, or a lemma.
 ghost use Rattle.std.specs.Prelude.{◌≡◌, ℕ, [], ◌∷◌, ◌++◌, ◌+◌, ◌<◌, ◌≤◌, ◌^◌, List, true, false, ◌&&◌, length, map, slice_get, Some, IfOk, IfNone, IfSome};
 ghost use Rattle.std.specs.List.{AllByRecursion, list_all, count_by};
+ghost use Rattle.std.specs.Option.{option_copied};
 ghost use Rattle.op_constraints.specs.declared.TheConstants.{VAR_LIMIT};
-ghost use Rattle.op_constraints.specs.Meets.{at, IsWithin, IsClosed};
+ghost use Rattle.op_constraints.specs.Meets.{constraint_at, at, IsWithin, IsClosed};
 ghost use Rattle.op_constraints.specs.Kept.{is_distinct, HasDistinctMembers, IsKept};
 ghost use Rattle.op_constraints.specs.declared.Constraint.{Constraint};
+ghost use Rattle.op_constraints.specs.declared.Lit.{Lit};
 ghost use Rattle.derivations.specs.declared.Lemma.{Lemma};
 ghost use Rattle.derivations.specs.Clauses.{negative, is_too_many};
-ghost use Rattle.derivations.specs.Follows.{LogFollows};
+ghost use Rattle.derivations.specs.Follows.{clauses, LogFollows};
 ghost use Rattle.preference_search.specs.Denials.{is_denied, IsAllowed, AllowsSet, IsDenial, IsGivenDenial, IsDeniedByOne, NoLemmaDenies};
+ghost use Rattle.preference_search.specs.declared.naming.Place.{Place};
 ghost use Rattle.preference_search.specs.Pairs.{both_once};
 
-use derivations::{Hint, Log, Refutation};
+use crate::naming::Place;
+use derivations::{Hint, Lemma, Log, Refutation};
 use olm_base::{Many, Memory};
 use op_constraints::{Constraint, Lit, Problem, VarId};
 use std::alloc::Global;
@@ -222,6 +226,50 @@ pub(crate) fn by_given(
     Ok(None)
 }
 
+/// A denial of the set by a clause of the owner's constraint with this number, where there is one.
+fn by_place(
+    alloc: Global,
+    problem: &Problem,
+    bits: &[bool],
+    owner: VarId,
+    number: u32,
+) -> Result<Option<Refutation>, Memory>
+    requires closed { IsClosed problem.now }
+    requires bits { length bits.now ≡ length problem.now }
+    ensures none { IfOk result (λ found. IfNone found ((c : Constraint) → constraint_at problem.now owner number ≡ Some c → IsAllowed (at bits.now) owner c)) }
+    ensures some { IfOk result (λ found. IfSome found (λ d. (log : List Lemma) → IsDenial problem.now log (at bits.now) d)) }
+{
+    let _count = problem.len();
+    match problem.find(owner, number) {
+        Some(constraint) => by_constraint(alloc, bits, owner, number, constraint),
+        None => Ok(None),
+    }
+}
+
+/// A denial of the set by a clause of one of the constraints that stand there, where there is one.
+pub(crate) fn by_places(
+    alloc: Global,
+    problem: &Problem,
+    bits: &[bool],
+    places: &[Place],
+) -> Result<Option<Refutation>, Memory>
+    requires closed { IsClosed problem.now }
+    requires bits { length bits.now ≡ length problem.now }
+    ensures none { IfOk result (λ found. IfNone found ((i : ℕ) (place : Place) (c : Constraint)
+        → slice_get places.now i ≡ Some place
+        → constraint_at problem.now place.owner place.constraint ≡ Some c
+        → IsAllowed (at bits.now) place.owner c)) }
+    ensures some { IfOk result (λ found. IfSome found (λ d. (log : List Lemma) → IsDenial problem.now log (at bits.now) d)) }
+{
+    for place in places {
+        let owner = VarId(place.owner);
+        if let Some(found) = by_place(alloc, problem, bits, owner, place.constraint)? {
+            return Ok(Some(found));
+        }
+    }
+    Ok(None)
+}
+
 /// Whether each literal of the clause says that one of the set is out.
 fn are_denied(bits: &[bool], lits: &[Lit]) -> bool
     ensures { result ≡ is_denied (at bits.now) lits.now }
@@ -258,6 +306,60 @@ pub(crate) fn by_lemma(
     for (number, lemma) in log.lemmas.as_slice().iter().enumerate() {
         if are_denied(bits, lemma.lits.as_slice()) {
             return Ok(Some(by_number(alloc, number as u32, lemma.lits.as_slice())?));
+        }
+    }
+    Ok(None)
+}
+
+/// The lemma with this number.
+fn numbered(log: &Log, number: u32) -> Option<&Lemma>
+    ensures { option_copied result ≡ slice_get log.now.lemmas number }
+{
+    log.lemmas.as_slice().get(number as usize)
+}
+
+/// A denial of the set by the lemma with this number, where it is one.
+fn by_numbered(
+    alloc: Global,
+    log: &Log,
+    bits: &[bool],
+    number: u32,
+) -> Result<Option<Refutation>, Memory>
+    ensures none { IfOk result (λ found. IfNone found ((clause : List Lit)
+        → slice_get (clauses log.now.lemmas) number ≡ Some clause
+        → is_denied (at bits.now) clause ≡ false)) }
+    ensures some { IfOk result (λ found. IfSome found (λ d.
+        (problem : List (List Constraint)) → LogFollows problem log.now.lemmas → IsDenial problem log.now.lemmas (at bits.now) d)) }
+{
+    match numbered(log, number) {
+        Some(lemma) => {
+            if are_denied(bits, lemma.lits.as_slice()) {
+                Ok(Some(by_number(alloc, number, lemma.lits.as_slice())?))
+            } else {
+                Ok(None)
+            }
+        }
+        None => Ok(None),
+    }
+}
+
+/// A denial of the set by one of the lemmas with these numbers, where there is one.
+pub(crate) fn by_lemmas(
+    alloc: Global,
+    log: &Log,
+    bits: &[bool],
+    numbers: &[u32],
+) -> Result<Option<Refutation>, Memory>
+    ensures none { IfOk result (λ found. IfNone found ((i number : ℕ) (clause : List Lit)
+        → slice_get numbers.now i ≡ Some number
+        → slice_get (clauses log.now.lemmas) number ≡ Some clause
+        → is_denied (at bits.now) clause ≡ false)) }
+    ensures some { IfOk result (λ found. IfSome found (λ d.
+        (problem : List (List Constraint)) → LogFollows problem log.now.lemmas → IsDenial problem log.now.lemmas (at bits.now) d)) }
+{
+    for number in numbers {
+        if let Some(found) = by_numbered(alloc, log, bits, *number)? {
+            return Ok(Some(found));
         }
     }
     Ok(None)

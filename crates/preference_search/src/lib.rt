@@ -3,7 +3,9 @@
 
 mod decisions;
 mod denials;
+mod learnt;
 mod lists;
+mod naming;
 mod search;
 mod sets;
 #[cfg(test)]

@@ -1,21 +1,25 @@
 // The search through the partial walks in their order.
-ghost use Rattle.std.specs.Prelude.{◌≡◌, ℕ, [], ◌∷◌, ◌++◌, ◌+◌, ◌<◌, ◌≤◌, ◌^◌, suc, true, false, cond, length, map, take, ◌-◌, drop, slice_index, slice_set, IfOk, OnOk, IfNone, IfSome, Some};
+ghost use Rattle.std.specs.Prelude.{◌≡◌, ℕ, List, [], ◌∷◌, ◌++◌, ◌+◌, ◌<◌, ◌≤◌, ◌^◌, suc, true, false, cond, length, map, take, ◌-◌, drop, slice_index, slice_set, IfOk, OnOk, IfNone, IfSome, Some};
 ghost use Rattle.std.specs.List.{AllByRecursion};
 ghost use Rattle.op_constraints.specs.declared.TheConstants.{VAR_LIMIT};
 ghost use Rattle.op_constraints.specs.Meets.{at, IsClosed};
 ghost use Rattle.op_constraints.specs.Walks.{is_among, walk, waiting, IsBefore};
+ghost use Rattle.derivations.specs.declared.Lemma.{Lemma};
 ghost use Rattle.derivations.specs.Clauses.{is_in, negative};
 ghost use Rattle.derivations.specs.Follows.{Follows, LogFollows};
 ghost use Rattle.op_constraints.specs.WalkInvariant.{Stands};
-ghost use Rattle.preference_search.specs.Searching.{ArePassedOver, IsTrying};
-ghost use Rattle.preference_search.specs.Denials.{AllowsSet, IsDenial, NoLemmaDenies};
+ghost use Rattle.preference_search.specs.Searching.{ArePassedOver, IsUndeniedBefore, IsTrying};
+ghost use Rattle.preference_search.specs.Denials.{AllowsSet, IsDenial, NoLemmaDenies, IsUndenied};
 ghost use Rattle.preference_search.specs.Lists.{IsNext};
+ghost use Rattle.preference_search.specs.Naming.{IsIndexed};
 ghost use Rattle.preference_search.specs.State.{At, Trying, Comes, Advanced, PassedOver, IsClosing, IsDeniedAt, IsOffered};
 
-use crate::denials::{by_given, by_lemma, by_number, denials_of};
+use crate::denials::{by_given, by_number, by_places, denials_of};
+use crate::learnt::Learnt;
 use crate::lists::{Open, next_open};
+use crate::naming::{ByVariable, Place};
 use crate::sets::{bits_of, mandatory_variables};
-use derivations::{Hint, Log, ProofSink, Refutation};
+use derivations::{Hint, Refutation};
 use olm_base::{Many, Memory};
 use op_constraints::{Lit, Problem, VarId};
 use std::alloc::Global;
@@ -23,7 +27,7 @@ use std::alloc::Global;
 /// Where a search stands: at a partial walk, with the candidates that it passed over on the way.
 #[derive(Drop)]
 pub(crate) struct Search {
-    pub(crate) log: Log,
+    pub(crate) log: Learnt,
     pub(crate) numbers: Vec<u32>,
     pub(crate) chosen: Vec<VarId>,
     pub(crate) bits: Vec<bool>,
@@ -200,7 +204,7 @@ impl Search {
         Ok(hints)
     }
 
-    /// The walk is denied by a clause that follows: by a lemma that is there, or by this one as a lemma more.
+    /// The walk is denied by a clause that follows, as a lemma more, unless it has no number.
     fn close(
         &mut self,
         alloc: Global,
@@ -214,10 +218,7 @@ impl Search {
         if self.numbers.is_empty() {
             return Ok(Pass::Turned(Turn::Refused(refutation)));
         }
-        match by_lemma(alloc, &self.log, self.bits.as_slice())? {
-            Some(found) => Ok(Pass::Denied(found)),
-            None => self.learn(alloc, budget, problem, refutation),
-        }
+        self.learn(alloc, budget, problem, refutation)
     }
 
     /// The walk is denied by this clause, as a lemma more where the budget allows one.
@@ -230,10 +231,9 @@ impl Search {
     ) -> Result<Pass, Memory>
         requires closing { IsClosing problem.now budget self.old refutation }
         requires some { 0 < length self.old.numbers.items }
-        requires new { NoLemmaDenies self.old.log.lemmas (at self.old.bits.items) }
         ensures { IfOk result (λ pass. (number : ℕ) → Advanced problem.now budget self.old.numbers.items number self.new pass) }
     {
-        if self.log.lemmas.as_slice().len() >= budget as usize {
+        if self.log.len() >= budget as usize {
             return Ok(Pass::Turned(Turn::Spent));
         }
         let lits = refutation.lits.as_slice();
@@ -339,28 +339,78 @@ impl Search {
         }
     }
 
-    /// A denial of the walk by a given clause or by a lemma, where there is one.
-    fn denial(&self, alloc: Global, problem: &Problem) -> Result<Option<Refutation>, Memory>
-        requires closed { IsClosed problem.now }
-        requires size { length self.now.bits.items ≡ length problem.now }
-        requires few { length self.now.log.lemmas < 2 ^ 32 }
-        requires follows { LogFollows problem.now self.now.log.lemmas }
-        ensures none { IfOk result (λ found. IfNone found (AllowsSet problem.now (at self.now.bits.items))) }
-        ensures some { IfOk result (λ found. IfSome found (λ d. IsDenial problem.now self.now.log.lemmas (at self.now.bits.items) d)) }
+    /// A denial of the walk by a given clause, where there is one. Once a number is taken, only the constraints that name the last
+    /// variable are looked at.
+    fn given_denial(
+        &self,
+        alloc: Global,
+        problem: &Problem,
+        places: &ByVariable<Place>,
+    ) -> Result<Option<Refutation>, Memory>
+        requires indexed { IsIndexed problem.now places.now }
+        requires stands { Stands problem.now self.now.bits.items self.now.chosen.items self.now.numbers.items }
+        requires before { IsUndeniedBefore problem.now self.now.log.lemmas self.now.chosen.items self.now.numbers.items }
+        ensures none { IfOk result (λ found. IfNone found (AllowsSet problem.now (is_among self.now.chosen.items))) }
+        ensures some { IfOk result (λ found. IfSome found (λ d. (log : List Lemma) → IsDenial problem.now log (at self.now.bits.items) d)) }
     {
-        match by_given(alloc, problem, self.bits.as_slice())? {
-            Some(found) => Ok(Some(found)),
-            None => match by_lemma(alloc, &self.log, self.bits.as_slice())? {
-                Some(found) => Ok(Some(found)),
-                None => Ok(None),
+        let bits = self.bits.as_slice();
+        if self.numbers.is_empty() {
+            return by_given(alloc, problem, bits);
+        }
+        match self.chosen.last() {
+            Some(var) => match places.list(*var) {
+                Some(list) => by_places(alloc, problem, bits, list),
+                None => by_given(alloc, problem, bits),
             },
+            None => by_given(alloc, problem, bits),
         }
     }
 
-    /// Goes on from the walk, which no given clause denies.
+    /// A denial of the walk by a lemma, where there is one. Once a number is taken, only the lemmas that name the last variable are
+    /// looked at.
+    fn lemma_denial(&self, alloc: Global, problem: &Problem) -> Result<Option<Refutation>, Memory>
+        requires stands { Stands problem.now self.now.bits.items self.now.chosen.items self.now.numbers.items }
+        requires before { IsUndeniedBefore problem.now self.now.log.lemmas self.now.chosen.items self.now.numbers.items }
+        requires few { length self.now.log.lemmas < 2 ^ 32 }
+        requires follows { LogFollows problem.now self.now.log.lemmas }
+        ensures none { IfOk result (λ found. IfNone found (NoLemmaDenies self.now.log.lemmas (is_among self.now.chosen.items))) }
+        ensures some { IfOk result (λ found. IfSome found (λ d. IsDenial problem.now self.now.log.lemmas (at self.now.bits.items) d)) }
+    {
+        let bits = self.bits.as_slice();
+        if self.numbers.is_empty() {
+            return self.log.denial(alloc, bits);
+        }
+        match self.chosen.last() {
+            Some(var) => self.log.denial_naming(alloc, bits, *var),
+            None => self.log.denial(alloc, bits),
+        }
+    }
+
+    /// A denial of the walk by a given clause or by a lemma, where there is one.
+    fn denial(
+        &self,
+        alloc: Global,
+        problem: &Problem,
+        places: &ByVariable<Place>,
+    ) -> Result<Option<Refutation>, Memory>
+        requires indexed { IsIndexed problem.now places.now }
+        requires stands { Stands problem.now self.now.bits.items self.now.chosen.items self.now.numbers.items }
+        requires before { IsUndeniedBefore problem.now self.now.log.lemmas self.now.chosen.items self.now.numbers.items }
+        requires few { length self.now.log.lemmas < 2 ^ 32 }
+        requires follows { LogFollows problem.now self.now.log.lemmas }
+        ensures none { IfOk result (λ found. IfNone found (IsUndenied problem.now self.now.log.lemmas (is_among self.now.chosen.items))) }
+        ensures some { IfOk result (λ found. IfSome found (λ d. IsDenial problem.now self.now.log.lemmas (at self.now.bits.items) d)) }
+    {
+        match self.given_denial(alloc, problem, places)? {
+            Some(found) => Ok(Some(found)),
+            None => self.lemma_denial(alloc, problem),
+        }
+    }
+
+    /// Goes on from the walk, which no given clause and no lemma denies.
     fn descend(&mut self, alloc: Global, budget: u32, problem: &Problem) -> Result<Turn, Memory>
         requires here { At problem.now budget self.old }
-        requires allowed { AllowsSet problem.now (is_among self.old.chosen.items) }
+        requires undenied { IsUndenied problem.now self.old.log.lemmas (is_among self.old.chosen.items) }
         ensures { IfOk result (λ turn. Comes problem.now budget (λ later. IsBefore self.old.numbers.items later) self.new turn) }
     {
         match next_open(problem, self.chosen.as_slice(), self.bits.as_slice()) {
@@ -378,11 +428,13 @@ impl Search {
         alloc: Global,
         budget: u32,
         problem: &Problem,
+        places: &ByVariable<Place>,
     ) -> Result<Turn, Memory>
-        requires { At problem.now budget self.old }
+        requires here { At problem.now budget self.old }
+        requires indexed { IsIndexed problem.now places.now }
         ensures { IfOk result (λ turn. Comes problem.now budget (λ later. IsBefore self.old.numbers.items later) self.new turn) }
     {
-        match self.denial(alloc, problem)? {
+        match self.denial(alloc, problem, places)? {
             Some(denial) => self.deny(alloc, budget, problem, denial),
             None => self.descend(alloc, budget, problem),
         }
@@ -395,10 +447,9 @@ impl Search {
     {
         let chosen = mandatory_variables(alloc, problem)?;
         let bits = bits_of(alloc, problem, chosen.as_slice())?;
+        let log = Learnt::new(alloc, problem.len())?;
         Ok(Search {
-            log: Log {
-                lemmas: Many::new(alloc),
-            },
+            log,
             numbers: Vec::new(alloc),
             chosen,
             bits,

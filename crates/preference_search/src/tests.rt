@@ -1,6 +1,7 @@
 ghost use Rattle.std.specs.Prelude.{◌≡◌, ◌≤◌, ◌<◌, ◌^◌, IsTrue, length, IfOk};
 ghost use Rattle.std.specs.List.{AllByRecursion};
 ghost use Rattle.op_constraints.specs.Kept.{HasFewMembers};
+ghost use Rattle.op_constraints.specs.Meets.{IsClosed};
 ghost use Rattle.derivation_check.specs.Faults.{walk_of, steps_of};
 ghost use Rattle.preference_search.specs.Tests.{IsShort};
 
@@ -8,7 +9,7 @@ use super::*;
 use derivation_check::Checker;
 use derivations::{Finding, write_certificate};
 use olm_base::{Bytes, Memory};
-use op_constraints::{Constraint, Problem, VAR_LIMIT, VarId};
+use op_constraints::{Constraint, Problem, Tried, VAR_LIMIT, VarId, first_walk};
 use std::alloc::Global;
 use std::test::Fail;
 
@@ -19,6 +20,8 @@ enum Row<'a> {
     Asked(&'a [u32]),
     /// It needs one of these.
     Needs(&'a [u32]),
+    /// It needs one of these, and one of those.
+    Each(&'a [u32], &'a [u32]),
     Free,
     Out,
     /// Mandatory, and in conflict with that one.
@@ -42,6 +45,7 @@ fn constraint_of(alloc: Global, row: &Row<'_>) -> Result<Constraint, Memory>
     Ok(match row {
         Row::Asked(numbers) => Constraint::Dependency(list(alloc, numbers)?),
         Row::Needs(numbers) => Constraint::Dependency(list(alloc, numbers)?),
+        Row::Each(numbers, _) => Constraint::Dependency(list(alloc, numbers)?),
         Row::Free => Constraint::Dependency(list(alloc, &[])?),
         Row::Out => Constraint::Prohibited,
         Row::Apart(other) => Constraint::Conflict(VarId(*other)),
@@ -60,6 +64,10 @@ fn constraints_of(alloc: Global, row: &Row<'_>) -> Result<Vec<Constraint>, Memor
     match row {
         Row::Asked(_) => Ok(vec![in alloc; Constraint::Mandatory, constraint]?),
         Row::Apart(_) => Ok(vec![in alloc; Constraint::Mandatory, constraint]?),
+        Row::Each(_, others) => {
+            let other = Constraint::Dependency(list(alloc, others)?);
+            Ok(vec![in alloc; constraint, other]?)
+        }
         Row::Free => Ok(vec![in alloc]?),
         _ => Ok(vec![in alloc; constraint]?),
     }
@@ -104,6 +112,17 @@ fn is_short(certificate: &Certificate) -> bool
     }
 }
 
+/// Whether the checker accepts the certificate.
+fn is_certified(alloc: Global, problem: &Problem, certificate: Certificate) -> Result<bool, Memory>
+    requires { IsClosed problem.now }
+{
+    if !is_short(&certificate) {
+        return Ok(false);
+    }
+    let mut checker = Checker::new(alloc, problem, 99)?;
+    Ok(checker.check(&certificate).is_ok())
+}
+
 /// The text of the decision's certificate, where the checker accepts it.
 fn decided(alloc: Global, rows: &[Row<'_>], budget: u32) -> Result<Option<Bytes>, Memory> {
     let problem = problem_of(alloc, rows)?;
@@ -146,8 +165,8 @@ fn problems_that_no_set_meets(rt: HostRuntime) -> Result<(), Fail> {
     let clashing = [
         Row::Asked(&[2]),
         Row::Asked(&[3]),
-        Row::Needs(&[4]),
         Row::Needs(&[5]),
+        Row::Needs(&[4]),
         Row::Free,
         Row::Free,
         Row::Most(1, &[4, 5]),
@@ -223,5 +242,149 @@ fn edges_of_lists_and_budgets(rt: HostRuntime) -> Result<(), Fail> {
         otherwise(rt.alloc(), &[Row::Asked(&[1]), Row::Free], &bundle)?,
         None
     );
+    Ok(())
+}
+
+/// Two that are asked for, with a choice of two each; the first choice needs one of a third pair. Of each of three pairs one is taken.
+type Pairs = ([u32; 2], [u32; 2], [u32; 2]);
+
+fn paired(alloc: Global, pairs: &Pairs) -> Result<Problem, Memory> {
+    let rows = [
+        Row::Asked(&[2, 3]),
+        Row::Asked(&[4, 5]),
+        Row::Needs(&[6, 7]),
+        Row::Free,
+        Row::Needs(&[7]),
+        Row::Needs(&[]),
+        Row::Free,
+        Row::Free,
+        Row::Most(1, &pairs.0),
+        Row::Most(1, &pairs.1),
+        Row::Most(0, &pairs.2),
+    ];
+    problem_of(alloc, &rows)
+}
+
+/// Whether the decision is what the partial walks come to when they are tried one after another.
+fn is_agreed(decision: &Decision, tried: &Tried) -> bool {
+    match (decision, tried) {
+        (Decision::Chosen { walk, .. }, Tried::Found { walk: best }) => {
+            walk.as_slice() == best.as_slice()
+        }
+        (Decision::Refused { .. }, Tried::Nothing) => true,
+        _ => false,
+    }
+}
+
+fn agrees(alloc: Global, problem: &Problem) -> Result<bool, Memory> {
+    if !problem.closed() {
+        return Ok(false);
+    }
+    let tried = first_walk(alloc, problem, 99)?;
+    Ok(is_agreed(&decide(alloc, problem, 99)?, &tried))
+}
+
+/// Twenty small problems, whose best walks are found by trying them one after another.
+#[test]
+fn best_walks_of_small_problems(rt: HostRuntime) -> Result<(), Fail> {
+    let table: [Pairs; 20] = [
+        ([2, 4], [6, 7], [3, 3]),
+        ([2, 4], [6, 7], [7, 7]),
+        ([2, 4], [6, 7], [6, 6]),
+        ([2, 6], [2, 7], [3, 3]),
+        ([2, 6], [2, 7], [4, 4]),
+        ([2, 6], [6, 7], [2, 4]),
+        ([2, 7], [3, 4], [6, 6]),
+        ([2, 7], [3, 4], [5, 5]),
+        ([3, 4], [2, 7], [5, 6]),
+        ([3, 4], [2, 4], [6, 6]),
+        ([3, 4], [4, 7], [2, 2]),
+        ([4, 7], [2, 3], [6, 6]),
+        ([4, 6], [4, 7], [5, 5]),
+        ([4, 6], [3, 6], [7, 7]),
+        ([0, 1], [2, 3], [4, 5]),
+        ([0, 2], [1, 4], [7, 7]),
+        ([0, 3], [1, 6], [5, 5]),
+        ([0, 3], [6, 7], [5, 5]),
+        ([1, 6], [2, 4], [3, 3]),
+        ([7, 7], [6, 6], [2, 3]),
+    ];
+    for pairs in &table {
+        let problem = paired(rt.alloc(), pairs)?;
+        assert!(rt; agrees(rt.alloc(), &problem)?);
+    }
+    Ok(())
+}
+
+fn add(alloc: Global, problem: &mut Problem, row: &Row<'_>) -> Result<(), Memory> {
+    let constraints = constraints_of(alloc, row)?;
+    if problem.len() < VAR_LIMIT {
+        problem.push(alloc, Many::from_vec(constraints))?;
+    }
+    Ok(())
+}
+
+/// The subscriptions, each with a head and the entry before it.
+fn add_asked(alloc: Global, problem: &mut Problem, count: u32) -> Result<(), Memory>
+    requires { count ≤ 9 }
+{
+    for i in 0..count {
+        let head = count + 6 * i;
+        add(alloc, problem, &Row::Asked(&[head, head + 1]))?;
+    }
+    Ok(())
+}
+
+/// The entries: a head needs one of each of two pairs.
+fn add_entries(alloc: Global, problem: &mut Problem, count: u32) -> Result<(), Memory>
+    requires { count ≤ 9 }
+{
+    for i in 0..count {
+        let head = count + 6 * i;
+        let needs = Row::Each(&[head + 2, head + 3], &[head + 4, head + 5]);
+        add(alloc, problem, &needs)?;
+        for _ in 0..5 {
+            add(alloc, problem, &Row::Free)?;
+        }
+    }
+    Ok(())
+}
+
+/// One of each package, and one of each kind: each member of the first pair gives a kind that each member of the second gives too.
+fn add_limits(alloc: Global, problem: &mut Problem, count: u32) -> Result<(), Memory>
+    requires { count ≤ 9 }
+{
+    for i in 0..count {
+        let head = count + 6 * i;
+        let (x, y) = (head + 2, head + 4);
+        add(alloc, problem, &Row::Most(1, &[head, head + 1]))?;
+        add(alloc, problem, &Row::Most(1, &[x, x + 1]))?;
+        add(alloc, problem, &Row::Most(1, &[y, y + 1]))?;
+        add(alloc, problem, &Row::Most(1, &[x, y]))?;
+        add(alloc, problem, &Row::Most(1, &[x, y + 1]))?;
+        add(alloc, problem, &Row::Most(1, &[x + 1, y]))?;
+        add(alloc, problem, &Row::Most(1, &[x + 1, y + 1]))?;
+    }
+    Ok(())
+}
+
+fn is_chosen(decision: &Decision, numbers: &[u32]) -> bool {
+    match decision {
+        Decision::Chosen { walk, .. } => walk.as_slice() == numbers,
+        _ => false,
+    }
+}
+
+/// Three heads of which none can be taken, in each way that two pairs can be met.
+#[test]
+fn heads_that_nothing_meets(rt: HostRuntime) -> Result<(), Fail> {
+    let mut problem = Problem::new(rt.alloc());
+    add_asked(rt.alloc(), &mut problem, 3)?;
+    add_entries(rt.alloc(), &mut problem, 3)?;
+    add_limits(rt.alloc(), &mut problem, 3)?;
+    assert!(rt; problem.closed() && problem.len() == 42);
+    let decision = decide(rt.alloc(), &problem, 10_000)?;
+    assert!(rt; is_chosen(&decision, &[1, 1, 1]));
+    assert!(rt; is_certified(rt.alloc(), &problem, certificate_of(decision))?);
     Ok(())
 }

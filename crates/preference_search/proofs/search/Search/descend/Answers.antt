@@ -12,7 +12,7 @@ advance-requires-clause-trying c =
     let next = c.in-Some.next in
     let P : List ℕ → Type 0 = λ vs. IsNext c.args.problem.now vs next.owner next.place next.members.now in
     trying-begun c.args.problem.now c.args.budget s.log.lemmas s.numbers.items s.chosen.items s.bits.items s.steps.items next.owner next.place next.members.now
-    c.requires.here (subst P c.as_slice.ensures.value c.in-Some.ensures.some) c.requires.allowed
+    c.requires.here (subst P c.as_slice.ensures.value c.in-Some.ensures.some) c.requires.undenied
 
 pub returns-in-Turned : goal.returns-in-Turned
 returns-in-Turned c =

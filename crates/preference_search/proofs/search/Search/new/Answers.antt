@@ -14,5 +14,5 @@ bits_of-requires c =
 
 pub returns : goal.returns
 returns c = λ budget.
-    begun c.args.problem.now budget c.new.result c.new-2.result.items c.in_ok-chosen.chosen.items c.in_ok-bits.bits.items c.new-3.result.items
-    c.requires c.new.ensures c.new-2.ensures.items c.in_ok-chosen.ensures c.new-3.ensures.items c.in_ok-bits.ensures.size (c.in_ok-bits.ensures.same ∙ ap is_among c.as_slice.ensures.value)
+    begun c.args.problem.now budget c.in_ok-log.log.lemmas c.new-2.result.items c.in_ok-chosen.chosen.items c.in_ok-bits.bits.items c.new-3.result.items
+    c.requires c.in_ok-log.ensures c.new-2.ensures.items c.in_ok-chosen.ensures c.new-3.ensures.items c.in_ok-bits.ensures.size (c.in_ok-bits.ensures.same ∙ ap is_among c.as_slice.ensures.value)

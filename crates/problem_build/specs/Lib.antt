@@ -1,0 +1,6 @@
+pub mod Entries
+pub mod Numbers
+pub mod Asking
+pub mod Reaching
+pub mod Variables
+pub mod Building

@@ -1,0 +1,9 @@
+//! The problem of a namespace: what may be chosen for its subscriptions, and what every choice must meet.
+#![tactic(auto)]
+
+mod asking;
+mod building;
+mod names;
+
+pub use building::{BuildFault, Built};
+pub use names::VarName;

@@ -20,19 +20,25 @@ is_source spec visible = same visible.seen.namespace spec.source_namespace && sa
 abbrev pub source : List Visible → SubSpec → Option Catalog
 source catalogs spec = option_and_then (λ visible. visible.catalog) (find (is_source spec) catalogs)
 
-abbrev pub default_channel : Catalog → List ℕ → Option (List ℕ)
-default_channel catalog name = option_map (λ blob. blob.default_channel) (find (λ blob. same blob.name name) catalog.packages)
+abbrev pub default_channel : List Package → List ℕ → Option (List ℕ)
+default_channel packages name = option_map (λ blob. blob.default_channel) (find (λ blob. same blob.name name) packages)
 
 -- The channel that the subscription names, or else the default channel of its package.
 abbrev pub channel : Catalog → SubSpec → Option (List ℕ)
-channel catalog spec = option_or spec.channel (default_channel catalog spec.«package»)
+channel catalog spec = option_or spec.channel (default_channel catalog.packages spec.«package»)
 
--- The installed one: the first tip of the subscription's package.
-abbrev pub installed : List Tip → SubSpec → Option Tip
-installed tips spec = find (is_tip_of spec.«package») tips
+abbrev pub channel_from : List Visible → SubSpec → Option (List ℕ)
+channel_from catalogs spec = option_and_then (λ catalog. channel catalog spec) (source catalogs spec)
 
-abbrev pub installed_place : List Tip → SubSpec → Option ℕ
-installed_place tips spec = position (is_tip_of spec.«package») tips
+-- The installed one of a package: its first tip.
+abbrev pub installed : List Tip → List ℕ → Option Tip
+installed tips name = find (is_tip_of name) tips
+
+abbrev pub installed_place : List Tip → List ℕ → Option ℕ
+installed_place tips name = position (is_tip_of name) tips
+
+abbrev pub has_succeeded : List Tip → List ℕ → Bool
+has_succeeded tips name = option_map_or (λ tip. tip.succeeded) (installed tips name) false
 
 -- The upgrades from a tip in the subscription's channel, in channel order.
 abbrev pub upgrades_in : Catalog → SubSpec → Tip → List (List ℕ)
@@ -43,16 +49,16 @@ upgrades_in catalog spec tip =
 abbrev pub upgrades_from : List Visible → List Tip → SubSpec → List (List ℕ)
 upgrades_from catalogs tips spec =
     option_map_or (λ tip. option_map_or (λ catalog. upgrades_in catalog spec tip) (source catalogs spec) [])
-    (installed tips spec) []
+    (installed tips spec.«package») []
 
 -- The subscription with its channel, the place of the installed one among the tips, whether that one has succeeded, and the upgrades from it.
 abbrev pub asked : List Visible → List Tip → SubSpec → Asked
 asked catalogs tips spec =
     record {
       spec = spec;
-      channel = option_and_then (λ catalog. channel catalog spec) (source catalogs spec);
-      installed = installed_place tips spec;
-      has_succeeded = option_map_or (λ tip. tip.succeeded) (installed tips spec) false;
+      channel = channel_from catalogs spec;
+      installed = installed_place tips spec.«package»;
+      has_succeeded = has_succeeded tips spec.«package»;
       upgrades = upgrades_from catalogs tips spec;
     }
 

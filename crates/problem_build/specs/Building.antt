@@ -1,12 +1,14 @@
 -- The problem of a namespace.
-use Rattle.std.specs.Prelude.{◌≡◌, ℕ, nat_lt, max, Bool, if◌then◌else◌, List, length, map, Option, Some, None, Result, Ok, Err}
-use Rattle.std.specs.List.{fold, items_where_true}
+use Rattle.std.specs.Prelude.{◌≡◌, ℕ, nat_lt, max, Bool, if◌then◌else◌, List, [], length, map, Option, Some, None, Result, Ok, Err}
+use Rattle.std.specs.List.{find, fold, items_where_true}
+use Rattle.std.specs.Option.{option_map_or}
+use Rattle.fbc_types.specs.Texts.{same}
 use Rattle.cluster_objects.specs.declared.resolutions.Basis.{Basis}
 use Rattle.op_constraints.specs.declared.Constraint.{Constraint}
 use Rattle.op_constraints.specs.declared.TheConstants.{VAR_LIMIT}
 use Rattle.view_basis.specs.Tips.{tip_offer}
 use Rattle.view_basis.specs.declared.visible.Visible.{Visible}
-use Rattle.problem_build.specs.Asking.{asked}
+use Rattle.problem_build.specs.Asking.{asked, upgrades_from}
 use Rattle.problem_build.specs.Entries.{entries}
 use Rattle.problem_build.specs.Reaching.{AreReached}
 use Rattle.problem_build.specs.Variables.{Choices, names, problem}
@@ -34,6 +36,12 @@ pub record IsProblemOf (basis : Basis) (catalogs : List Visible) (built : List (
   pub are_reached : AreReached (asks basis catalogs) (entries catalogs) reached
   pub is_problem : built ≡ problem (choices basis catalogs reached)
   pub are_names : built_names ≡ names basis.subscriptions basis.tips (choices basis catalogs reached)
+
+-- The upgrades from the installed one of the subscription of this name.
+abbrev pub upgrades_of : Basis → List Visible → List ℕ → List (List ℕ)
+upgrades_of basis catalogs name =
+    option_map_or (λ subscription. upgrades_from catalogs basis.tips subscription.1)
+    (find (λ subscription. same subscription.0 name) basis.subscriptions) []
 
 -- The most constraints that a variable has.
 abbrev pub most_constraints : List (List Constraint) → ℕ

@@ -67,11 +67,14 @@ abbrev pub is_default : List Package → Channel → Bool
 is_default packages channel =
     list_any (λ blob. same blob.name channel.«package» && same blob.default_channel channel.name) packages
 
--- By the package's name; of one package the default channel comes first, and then the others by their names.
+-- Of one package the default channel comes first, and then the others by their names.
+abbrev pub cmp_in_package : List Package → Channel → Channel → Ordering
+cmp_in_package packages a b =
+    ordering_then (bool_cmp (is_default packages b) (is_default packages a)) (slice_cmp nat_cmp a.name b.name)
+
+-- Channels come by their packages' names.
 abbrev pub channel_cmp : List Package → Channel → Channel → Ordering
-channel_cmp packages a b =
-    ordering_then (slice_cmp nat_cmp a.«package» b.«package»)
-    (ordering_then (bool_cmp (is_default packages b) (is_default packages a)) (slice_cmp nat_cmp a.name b.name))
+channel_cmp packages a b = ordering_then (slice_cmp nat_cmp a.«package» b.«package») (cmp_in_package packages a b)
 
 abbrev pub is_before : List Package → Channel → Channel → Bool
 is_before packages a b = is_lt (channel_cmp packages a b)

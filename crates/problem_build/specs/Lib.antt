@@ -4,3 +4,4 @@ pub mod Asking
 pub mod Reaching
 pub mod Variables
 pub mod Building
+pub mod Shown

@@ -1,8 +1,8 @@
 -- The variables of a problem, their constraints, and what they stand for.
-use Rattle.std.specs.Prelude.{ℕ, ◌+◌, Bool, false, ◌&&◌, not, nat_le, nat_eq, if◌then◌else◌, List, [], ◌∷◌, ◌++◌, length, map, Option}
+use Rattle.std.specs.Prelude.{ℕ, ◌+◌, ◌<◌, ◌≤◌, Bool, false, ◌&&◌, not, nat_le, nat_eq, if◌then◌else◌, List, [], ◌∷◌, ◌++◌, length, map, Option}
 use Rattle.std.specs.Cmp.Lexicographic.{slice_cmp}
-use Rattle.std.specs.List.{count_by, filter, filter_map, find, flat_map, list_any, range_with_len}
-use Rattle.std.specs.Option.{option_map, option_map_or, option_to_list}
+use Rattle.std.specs.List.{All, count_by, filter, filter_map, flat_map, list_any, range_with_len}
+use Rattle.std.specs.Option.{IfSome, option_map, option_map_or, option_to_list}
 use Rattle.std.specs.Ordering.{nat_cmp, ordering_then}
 use Rattle.std.specs.declared.cmp.Ordering.{Ordering}
 use Rattle.olm_base.specs.declared.gvk.Gvk.{Gvk}
@@ -12,11 +12,11 @@ use Rattle.cluster_objects.specs.declared.resolutions.Tip.{Tip}
 use Rattle.cluster_objects.specs.declared.statuses.SubSpec.{SubSpec}
 use Rattle.op_constraints.specs.declared.Constraint.{Constraint}
 use Rattle.op_constraints.specs.declared.Constraint.TheVariants.{Mandatory, Dependency, Conflict, AtMost}
+use Rattle.op_constraints.specs.declared.TheConstants.{VAR_LIMIT}
 use Rattle.op_properties.specs.Offers.{Provided, is_among, is_of}
 use Rattle.op_properties.specs.Passing.{passes}
 use Rattle.op_properties.specs.declared.requirement.Requirement.{Requirement}
-use Rattle.view_basis.specs.Tips.{is_tip_of}
-use Rattle.problem_build.specs.Asking.{is_candidate, is_upgrade}
+use Rattle.problem_build.specs.Asking.{installed, is_candidate, is_upgrade}
 use Rattle.problem_build.specs.Entries.{Entry}
 use Rattle.problem_build.specs.Numbers.{numbers_where, once_in_order}
 use Rattle.problem_build.specs.declared.asking.Asked.{Asked}
@@ -88,34 +88,42 @@ is_installed_one asks place = list_any (λ asked. option_map_or (nat_eq place) a
 abbrev pub of_tip : List Asked → ℕ → List Constraint
 of_tip asks place = if is_installed_one asks place then [] else Mandatory ∷ []
 
--- The packages, and the kinds, of two or more entries and tips, each once: the packages by name, the kinds by group, version and kind.
-abbrev pub is_shared : Choices → (Provided → Bool) → Bool
-is_shared choices provides = nat_le 2 (count_by provides (provided choices))
+-- Two or more of these provide it.
+abbrev pub is_shared : List Provided → (Provided → Bool) → Bool
+is_shared offers provides = nat_le 2 (count_by provides offers)
 
-abbrev pub packages : Choices → List (List ℕ)
-packages choices =
-    filter (λ name. is_shared choices (λ offer. is_of name offer.«package»))
-    (once_in_order (slice_cmp nat_cmp) (filter_map (λ offer. offer.«package») (provided choices)))
+abbrev pub is_of_package : List ℕ → Provided → Bool
+is_of_package name offer = is_of name offer.«package»
 
+abbrev pub has_kind : Gvk → Provided → Bool
+has_kind kind offer = is_among kind offer.kinds
+
+-- The packages of two or more of these, by name.
+abbrev pub packages : List Provided → List (List ℕ)
+packages offers =
+    filter (λ name. is_shared offers (is_of_package name))
+    (once_in_order (slice_cmp nat_cmp) (filter_map (λ offer. offer.«package») offers))
+
+-- By group, version and kind.
 abbrev pub kind_cmp : Gvk → Gvk → Ordering
 kind_cmp a b =
     ordering_then (slice_cmp nat_cmp a.group b.group)
     (ordering_then (slice_cmp nat_cmp a.version b.version) (slice_cmp nat_cmp a.kind b.kind))
 
-abbrev pub kinds : Choices → List Gvk
-kinds choices =
-    filter (λ kind. is_shared choices (λ offer. is_among kind offer.kinds))
-    (once_in_order kind_cmp (flat_map (λ offer. offer.kinds) (provided choices)))
+-- The kinds that two or more of these provide.
+abbrev pub kinds : List Provided → List Gvk
+kinds offers =
+    filter (λ kind. is_shared offers (has_kind kind)) (once_in_order kind_cmp (flat_map (λ offer. offer.kinds) offers))
 
 -- One at most of these.
 abbrev pub one_of : Choices → (Provided → Bool) → List Constraint
 one_of choices provides = AtMost 1 (providers_where choices provides) ∷ []
 
 abbrev pub of_package : Choices → List ℕ → List Constraint
-of_package choices name = one_of choices (λ offer. is_of name offer.«package»)
+of_package choices name = one_of choices (is_of_package name)
 
 abbrev pub of_kind : Choices → Gvk → List Constraint
-of_kind choices kind = one_of choices (λ offer. is_among kind offer.kinds)
+of_kind choices kind = one_of choices (has_kind kind)
 
 -- The variables with their constraints.
 abbrev pub problem : Choices → List (List Constraint)
@@ -123,8 +131,13 @@ problem choices =
     map (of_subscription choices) choices.asks
     ++ (map (of_entry choices) choices.entries
     ++ (map (of_tip choices.asks) (range_with_len 0 (length choices.tips))
-    ++ (map (of_package choices) (packages choices)
-    ++ map (of_kind choices) (kinds choices))))
+    ++ (map (of_package choices) (packages (provided choices))
+    ++ map (of_kind choices) (kinds (provided choices)))))
+
+-- The problem is no larger than a problem may be, and what is installed is among the tips.
+pub record Fits (choices : Choices) : Type 0 where
+  pub few : first_tip choices + length choices.tips ≤ VAR_LIMIT
+  pub installed : All (λ asked. IfSome asked.installed (λ place. place < length choices.tips)) choices.asks
 
 -- What taking an entry means: it replaces the first tip of its package, if there is one.
 abbrev pub taken : List Tip → Entry → Taken
@@ -136,7 +149,7 @@ taken tips entry =
       channel = entry.channel;
       name = entry.name;
       version = entry.version;
-      replaces = option_map (λ tip. tip.name) (find (is_tip_of entry.«package») tips);
+      replaces = option_map (λ tip. tip.name) (installed tips entry.«package»);
     }
 
 -- What the variables stand for.
@@ -145,5 +158,5 @@ names subscriptions tips choices =
     map (λ subscription. name.Subscription subscription.0) subscriptions
     ++ (map (λ entry. name.Entry (taken tips entry)) choices.entries
     ++ (map (λ tip. name.Installed tip.name) tips
-    ++ (map name.OnePackage (packages choices)
-    ++ map name.OneKind (kinds choices))))
+    ++ (map name.OnePackage (packages (provided choices))
+    ++ map name.OneKind (kinds (provided choices)))))

@@ -3,7 +3,11 @@
 
 mod asking;
 mod building;
+mod channels;
+mod entries;
+mod choices;
 mod names;
+mod tips;
 
 pub use building::{BuildFault, Built};
 pub use names::VarName;

@@ -3,10 +3,14 @@
 
 mod asking;
 mod building;
+mod candidates;
 mod channels;
 mod entries;
 mod choices;
 mod names;
+mod reaching;
+mod rows;
+mod shared;
 mod tips;
 
 pub use building::{BuildFault, Built};

@@ -9,13 +9,12 @@ ghost use Rattle.problem_build.specs.Building as building;
 ghost use Rattle.problem_build.specs.Shown.{shown_entry};
 
 use crate::entries::Listed;
-use crate::tips::tip_version;
 use cluster_objects::{Basis, SubSpec, Tip};
 use fbc_types::{CheckedCatalog, Package};
 use olm_base::{Many, Memory, Name};
 use std::alloc::Global;
 use upgrade_graph::upgrades;
-use view_basis::Visible;
+use view_basis::{Visible, tip_version};
 
 /// A subscription as its catalog and the tips make it.
 #[derive(Debug, Drop)]

@@ -78,12 +78,12 @@ few_constraints rows h = (most_from 0 VAR_LIMIT rows h).1
 -- The names of the code, over the packages and kinds that it has found, are as many as the variables.
 pub named_long : (made : List VarName) (subscriptions : List (List ℕ × SubSpec)) (tips : List Tip) (choices : Choices) (ps : List (List ℕ)) (ks : List Gvk)
     → made ≡ map (λ subscription. name.Subscription subscription.0) subscriptions ++ (map (λ entry. name.Entry (taken tips entry)) choices.entries
-      ++ (map (λ tip. name.Installed tip.name) tips ++ (map name.OnePackage ps ++ map name.OneKind ks)))
+    ++ (map (λ tip. name.Installed tip.name) tips ++ (map name.OnePackage ps ++ map name.OneKind ks)))
     → ps ≡ packages (provided choices) → ks ≡ kinds (provided choices)
     → length choices.asks ≡ length subscriptions → length choices.tips ≡ length tips → length made ≡ length (problem choices)
 named_long made subscriptions tips choices ps ks e p k a t =
     let front = λ (l : List VarName). map (λ (subscription : List ℕ × SubSpec). name.Subscription subscription.0) subscriptions ++ (map (λ (entry : Entry). name.Entry (taken tips entry)) choices.entries
-      ++ (map (λ (tip : Tip). name.Installed tip.name) tips ++ l)) in
+    ++ (map (λ (tip : Tip). name.Installed tip.name) tips ++ l)) in
     let same : made ≡ names subscriptions tips choices =
     e ∙ ap (λ (l : List (List ℕ)). front (map name.OnePackage l ++ map name.OneKind ks)) p
     ∙ ap (λ (l : List Gvk). front (map name.OnePackage (packages (provided choices)) ++ map name.OneKind l)) k in

@@ -36,9 +36,9 @@ module _ {T : Type 0} (p : T → Bool) where
       let other : (n == m) ≡ false = ne_eqb n m (λ e. omega arith) in
       let first : filter (λ w. not (w == m)) (n ∷ numbers_where (n + 1) p xs) ≡ n ∷ numbers_where (n + 1) p xs = rw other (ap (λ l. n ∷ l) rest) in
       let go : (b : Bool) → filter (λ w. not (w == m)) (if b then n ∷ numbers_where (n + 1) p xs else numbers_where (n + 1) p xs)
-          ≡ (if b then n ∷ numbers_where (n + 1) p xs else numbers_where (n + 1) p xs) =
+      ≡ (if b then n ∷ numbers_where (n + 1) p xs else numbers_where (n + 1) p xs) =
       λ b. elim b as (λ b. filter (λ w. not (w == m)) (if b then n ∷ numbers_where (n + 1) p xs else numbers_where (n + 1) p xs)
-          ≡ (if b then n ∷ numbers_where (n + 1) p xs else numbers_where (n + 1) p xs)) [
+      ≡ (if b then n ∷ numbers_where (n + 1) p xs else numbers_where (n + 1) p xs)) [
         | true ↦ first
         | false ↦ rest
       ] in
@@ -51,9 +51,9 @@ module _ {T : Type 0} (p : T → Bool) where
       let first : each_once (n ∷ numbers_where (n + 1) p xs) ≡ n ∷ numbers_where (n + 1) p xs =
       ap (λ l. n ∷ filter (λ w. not (w == n)) l) rest ∙ ap (λ l. n ∷ l) (fresh n (n + 1) xs (omega arith)) in
       let go : (b : Bool) → each_once (if b then n ∷ numbers_where (n + 1) p xs else numbers_where (n + 1) p xs)
-          ≡ (if b then n ∷ numbers_where (n + 1) p xs else numbers_where (n + 1) p xs) =
+      ≡ (if b then n ∷ numbers_where (n + 1) p xs else numbers_where (n + 1) p xs) =
       λ b. elim b as (λ b. each_once (if b then n ∷ numbers_where (n + 1) p xs else numbers_where (n + 1) p xs)
-          ≡ (if b then n ∷ numbers_where (n + 1) p xs else numbers_where (n + 1) p xs)) [
+      ≡ (if b then n ∷ numbers_where (n + 1) p xs else numbers_where (n + 1) p xs)) [
         | true ↦ first
         | false ↦ rest
       ] in
@@ -66,20 +66,20 @@ few_of_two p q n m [] apart = omega arith
 few_of_two p q n m (x ∷ xs) apart =
     let rest : length (numbers_where (n + 1) p xs) + length (numbers_where (m + 1) q xs) ≤ length xs = few_of_two p q (n + 1) (m + 1) xs apart in
     let go : (b c : Bool) → p x ≡ b → q x ≡ c
-        → length (if b then n ∷ numbers_where (n + 1) p xs else numbers_where (n + 1) p xs)
-        + length (if c then m ∷ numbers_where (m + 1) q xs else numbers_where (m + 1) q xs) ≤ suc (length xs) =
+    → length (if b then n ∷ numbers_where (n + 1) p xs else numbers_where (n + 1) p xs)
+    + length (if c then m ∷ numbers_where (m + 1) q xs else numbers_where (m + 1) q xs) ≤ suc (length xs) =
     λ b c. elim b as (λ b. p x ≡ b → q x ≡ c
-        → length (if b then n ∷ numbers_where (n + 1) p xs else numbers_where (n + 1) p xs)
-        + length (if c then m ∷ numbers_where (m + 1) q xs else numbers_where (m + 1) q xs) ≤ suc (length xs)) [
+    → length (if b then n ∷ numbers_where (n + 1) p xs else numbers_where (n + 1) p xs)
+    + length (if c then m ∷ numbers_where (m + 1) q xs else numbers_where (m + 1) q xs) ≤ suc (length xs)) [
       | true ↦ λ h. elim c as (λ c. q x ≡ c → suc (length (numbers_where (n + 1) p xs))
           + length (if c then m ∷ numbers_where (m + 1) q xs else numbers_where (m + 1) q xs) ≤ suc (length xs)) [
-        | true ↦ λ k. absurd (let bad : true ≡ false = sym k ∙ apart x h in cc)
-        | false ↦ λ k. omega arith
-      ]
+            | true ↦ λ k. absurd (let bad : true ≡ false = sym k ∙ apart x h in cc)
+            | false ↦ λ k. omega arith
+          ]
       | false ↦ λ h. elim c as (λ c. q x ≡ c → length (numbers_where (n + 1) p xs)
           + length (if c then m ∷ numbers_where (m + 1) q xs else numbers_where (m + 1) q xs) ≤ suc (length xs)) [
-        | true ↦ λ k. omega arith
-        | false ↦ λ k. omega arith
-      ]
+            | true ↦ λ k. omega arith
+            | false ↦ λ k. omega arith
+          ]
     ] in
     go (p x) (q x) refl refl

@@ -47,8 +47,7 @@ there_is_one basis catalogs built other these those p q =
     let same : p.reached ≡ q.reached =
     bits_same p.reached q.reached (p.are_reached.each ∙ sym q.are_reached.each)
     (λ i h m. let below : i < length (entries catalogs) = omega (arith, long, h) in (q.are_reached.exact i below).1 ((p.are_reached.exact i below).0 m))
-    (λ i h m. let below : i < length (entries catalogs) = omega (arith, long, h) in (p.are_reached.exact i below).1 ((q.are_reached.exact i below).0 m)) in
-    (
+    (λ i h m. let below : i < length (entries catalogs) = omega (arith, long, h) in (p.are_reached.exact i below).1 ((q.are_reached.exact i below).0 m)) in (
       p.is_problem ∙ ap (λ (r : List Bool). problem (chosen_from basis catalogs r)) same ∙ sym q.is_problem,
       p.are_names ∙ ap (λ (r : List Bool). names basis.subscriptions basis.tips (chosen_from basis catalogs r)) same ∙ sym q.are_names,
     )
@@ -105,7 +104,6 @@ module _ (choices : Choices) (P : ℕ → Type 0)
       go (is_upgrade asked entry)
 
   tip_named : (place : ℕ) → AllByRecursion (Names P) (of_tip choices.asks place)
-
   tip_named place =
       let go : (b : Bool) → AllByRecursion (Names P) (if b then [] else Mandatory ∷ []) =
       λ b. elim b as (λ b. AllByRecursion (Names P) (if b then [] else Mandatory ∷ [])) [ true ↦ tt | false ↦ (tt, tt) ] in
@@ -123,7 +121,6 @@ module _ (choices : Choices) (P : ℕ → Type 0)
       (λ provides. (shared_named provides, tt))
 
 within_of : (k : ℕ) (c : Constraint) → Names (λ v. v < k) c → IsWithin k c
-
 within_of k Mandatory h = tt
 within_of k Prohibited h = tt
 within_of k (Dependency members) h = h
@@ -147,7 +144,6 @@ all_are_there basis catalogs built these p =
 
 -- What the lists of a row name.
 row_lists : (P : ℕ → Type 0) (row : List Constraint) → AllByRecursion (Names P) row → AllByRecursion (λ members. AllByRecursion P members) (dependencies row)
-
 row_lists P [] h = tt
 row_lists P (Mandatory ∷ row) h = row_lists P row h.1
 row_lists P (Prohibited ∷ row) h = row_lists P row h.1
@@ -196,14 +192,14 @@ module _ (rows : List (List Constraint)) (P : ℕ → Type 0) (all : AllByRecurs
       ([], sym same ∙ sym (append-nil chosen), tt)
   walked chosen (number ∷ numbers) end e =
       let go : (o : Option ℕ) → member (waiting rows chosen) number ≡ o → option_and_then (λ v. walk_from rows (chosen ++ v ∷ []) numbers) o ≡ Some end
-          → (more : List ℕ) × (end ≡ chosen ++ more) × AllByRecursion P more =
+      → (more : List ℕ) × (end ≡ chosen ++ more) × AllByRecursion P more =
       λ o. elim o as (λ o. member (waiting rows chosen) number ≡ o → option_and_then (λ v. walk_from rows (chosen ++ v ∷ []) numbers) o ≡ Some end
-          → (more : List ℕ) × (end ≡ chosen ++ more) × AllByRecursion P more) [
+      → (more : List ℕ) × (end ≡ chosen ++ more) × AllByRecursion P more) [
         | None ↦ λ h k. absurd (let bad : None ≡ Some end = k in cc)
         | Some v ↦ λ h k.
-          let later = walked (chosen ++ v ∷ []) numbers end k in
-          let here : P v = member_named (waiting rows chosen) number v (passed_named (is_among chosen) (agenda rows chosen) (agenda_named chosen)) h in
-          (v ∷ later.0, later.1 ∙ append_assoc chosen (v ∷ []) later.0, (here, later.2))
+            let later = walked (chosen ++ v ∷ []) numbers end k in
+            let here : P v = member_named (waiting rows chosen) number v (passed_named (is_among chosen) (agenda rows chosen) (agenda_named chosen)) h in
+            (v ∷ later.0, later.1 ∙ append_assoc chosen (v ∷ []) later.0, (here, later.2))
       ] in
       go (member (waiting rows chosen) number) refl e
 
@@ -217,8 +213,8 @@ module _ (rows : List (List Constraint)) (P : ℕ → Type 0) (all : AllByRecurs
       λ o. elim o as (λ o. walk rows numbers ≡ o → AllByRecursion P (option_map_or (λ chosen. drop (length (mandatory rows)) chosen) o [])) [
         | None ↦ λ h. tt
         | Some end ↦ λ h.
-          let found = walked (mandatory rows) numbers end h in
-          subst (AllByRecursion P) (sym (ap (drop (length (mandatory rows))) found.1 ∙ behind (mandatory rows) found.0)) found.2
+            let found = walked (mandatory rows) numbers end h in
+            subst (AllByRecursion P) (sym (ap (drop (length (mandatory rows))) found.1 ∙ behind (mandatory rows) found.0)) found.2
       ] in
       go (walk rows numbers) refl
 

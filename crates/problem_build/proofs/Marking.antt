@@ -66,10 +66,10 @@ begun asks seen marks done same none = record {
   long_done = ap length none ∙ long_row (length seen);
   asked = λ i entry e h. marked asks seen marks i entry same e ∙ h;
   sound = λ i below h set closed.
-    let x = there seen i below in
-    closed.candidates i x.0 x.1 (sym (marked asks seen marks i x.0 same x.1) ∙ h);
+      let x = there seen i below in
+      closed.candidates i x.0 x.1 (sym (marked asks seen marks i x.0 same x.1) ∙ h);
   closed = λ i j entry other e f d h.
-    absurd (let bad : true ≡ false = sym d ∙ ap (λ m. at m i) none ∙ none_done (length seen) i in cc);
+      absurd (let bad : true ≡ false = sym d ∙ ap (λ m. at m i) none ∙ none_done (length seen) i in cc);
 }
 
 pub step : (asks : List Asked) (seen : List Entry) (marks done more : List Bool) (place : ℕ) (entry : Entry) → Keeps asks seen marks done
@@ -81,19 +81,19 @@ step asks seen marks done more place entry keeps here h long each = record {
   long_done = length-set done place true ∙ keeps.long_done;
   asked = λ i other e asked. each i other e ∙ or_left (at marks i) (needs entry other) (keeps.asked i other e asked);
   sound = λ i below m set closed.
-    let x = there seen i below in
-    elim (or_cases (at marks i) (needs entry x.0) (sym (each i x.0 x.1) ∙ m)) [
-      | inl old ↦ keeps.sound i below old set closed
-      | inr new ↦ closed.needed place i entry x.0 here x.1 (keeps.sound place (slice_get_within seen place entry here) h set closed) new
-    ];
+      let x = there seen i below in
+      elim (or_cases (at marks i) (needs entry x.0) (sym (each i x.0 x.1) ∙ m)) [
+        | inl old ↦ keeps.sound i below old set closed
+        | inr new ↦ closed.needed place i entry x.0 here x.1 (keeps.sound place (slice_get_within seen place entry here) h set closed) new
+      ];
   closed = λ i j e o at_i at_j d n.
-    elim (set_cases done place i d) [
-      | inl same ↦
-        let one : Some e ≡ Some entry = sym at_i ∙ ap (slice_get seen) same ∙ here in
-        let is : e ≡ entry = cc in
-        each j o at_j ∙ or_right (at marks j) (needs entry o) (subst (λ (x : Entry). needs x o ≡ true) is n)
-      | inr old ↦ each j o at_j ∙ or_left (at marks j) (needs entry o) (keeps.closed i j e o at_i at_j old n)
-    ];
+      elim (set_cases done place i d) [
+        | inl same ↦
+            let one : Some e ≡ Some entry = sym at_i ∙ ap (slice_get seen) same ∙ here in
+            let is : e ≡ entry = cc in
+            each j o at_j ∙ or_right (at marks j) (needs entry o) (subst (λ (x : Entry). needs x o ≡ true) is n)
+        | inr old ↦ each j o at_j ∙ or_left (at marks j) (needs entry o) (keeps.closed i j e o at_i at_j old n)
+      ];
 }
 
 pub finish : (asks : List Asked) (seen : List Entry) (marks done : List Bool) → Keeps asks seen marks done

@@ -293,9 +293,9 @@ in_kinds kind (k ∷ ks) h =
     λ b. elim b as (λ b. same_kind kind k ≡ b → In kind (k ∷ ks)) [
       | true ↦ λ e. (zero, ap Some (sym (same_kinds kind k e)))
       | false ↦ λ e.
-        let rest : list_any (same_kind kind) ks ≡ true = rw e at h in
-        let r = in_kinds kind ks rest in
-        (suc r.0, r.1)
+          let rest : list_any (same_kind kind) ks ≡ true = rw e at h in
+          let r = in_kinds kind ks rest in
+          (suc r.0, r.1)
     ] in
     go (same_kind kind k) refl
 
@@ -306,7 +306,7 @@ package_row choices name a i e h shared =
     let one = in_filter_map (λ (offer : Provided). offer.«package») a name offers i e (named_package name a.«package» h) in
     let once = fold_new (slice_cmp nat_cmp) tied_texts (filter_map (λ (offer : Provided). offer.«package») offers) [] name one.0 one.1 in
     let kept = in_filter (λ (n : List ℕ). is_shared offers (is_of_package n)) name (once_in_order (slice_cmp nat_cmp) (filter_map (λ (offer : Provided). offer.«package») offers)) once.0 once.1
-      (le-leb 2 (count_by (is_of_package name) offers) shared) in
+    (le-leb 2 (count_by (is_of_package name) offers) shared) in
     let row = in_map (of_package choices) name (packages offers) kept.0 kept.1 in
     in_right _ (map (of_subscription choices) choices.asks) _
     (in_right _ (map (of_entry choices) choices.entries) _
@@ -320,7 +320,7 @@ kind_row choices kind a i e h shared =
     let one = in_flat_map (λ (offer : Provided). offer.kinds) a kind offers i e (in_kinds kind a.kinds h) in
     let once = fold_new kind_cmp tied_kinds (flat_map (λ (offer : Provided). offer.kinds) offers) [] kind one.0 one.1 in
     let kept = in_filter (λ (k : Gvk). is_shared offers (has_kind k)) kind (once_in_order kind_cmp (flat_map (λ (offer : Provided). offer.kinds) offers)) once.0 once.1
-      (le-leb 2 (count_by (has_kind kind) offers) shared) in
+    (le-leb 2 (count_by (has_kind kind) offers) shared) in
     let row = in_map (of_kind choices) kind (kinds offers) kept.0 kept.1 in
     in_right _ (map (of_subscription choices) choices.asks) _
     (in_right _ (map (of_entry choices) choices.entries) _

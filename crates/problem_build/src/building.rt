@@ -151,13 +151,25 @@ fn build_over(alloc: Global, basis: Basis, pool: &Pool) -> Result<Built, BuildFa
     let offers = provided(alloc, pool)?;
     let packages = shared_packages(alloc, offers.as_slice())?;
     let kinds = shared_kinds(alloc, offers.as_slice())?;
-    let names = names(alloc, &basis, pool.entries, packages.as_slice(), kinds.as_slice())?;
+    let names = names(
+        alloc,
+        &basis,
+        pool.entries,
+        packages.as_slice(),
+        kinds.as_slice(),
+    )?;
     if names.len() > VAR_LIMIT {
         return Err(BuildFault::TooManyVariables {
             count: names.len() as u64,
         });
     }
-    let rows = rows(alloc, pool, offers.as_slice(), packages.as_slice(), kinds.as_slice())?;
+    let rows = rows(
+        alloc,
+        pool,
+        offers.as_slice(),
+        packages.as_slice(),
+        kinds.as_slice(),
+    )?;
     let most = most_constraints(rows.as_slice());
     if most > VAR_LIMIT {
         return Err(BuildFault::TooManyVariables { count: most as u64 });

@@ -21,7 +21,8 @@ mod shared;
 
 pub use building::{BuildFault, Built};
 pub use laws::{
-    named_variables_are_there, packages_and_kinds_are_once, picks_are_entries_or_tips, problem_is_one,
+    named_variables_are_there, packages_and_kinds_are_once, picks_are_entries_or_tips,
+    problem_is_one,
 };
 pub use names::VarName;
 pub use problem::{problem_of, upgrades_of};

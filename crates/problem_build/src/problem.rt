@@ -53,11 +53,7 @@ fn upgrades_over(
 
 /// The names of the upgrades from the installed one of a subscription, in channel order. There are none where the
 /// namespace has no such subscription, or nothing of its package is installed.
-pub fn upgrades_of(
-    alloc: Global,
-    view: &View,
-    subscription: &Name,
-) -> Result<Many<Name>, Memory>
+pub fn upgrades_of(alloc: Global, view: &View, subscription: &Name) -> Result<Many<Name>, Memory>
     ensures { IfOk result (λ found. found ≡ spec.upgrades_of (basis view.now) (visible_catalogs view.now) subscription.now) }
 {
     let catalogs = catalogs_of(alloc, view)?;

@@ -28,11 +28,7 @@ fn needs(entry: &Listed, other: &Listed) -> bool
 }
 
 /// For each entry, whether it is a candidate of some subscription.
-fn candidate_marks(
-    alloc: Global,
-    asks: &[Asked],
-    entries: &[Listed],
-) -> Result<Vec<bool>, Memory>
+fn candidate_marks(alloc: Global, asks: &[Asked], entries: &[Listed]) -> Result<Vec<bool>, Memory>
     ensures { IfOk result (λ marks. marks.items ≡ map (λ entry. reaching.is_asked_for asks.now (shown_entry entry)) entries.now) }
 {
     let mut marks = Vec::new(alloc);

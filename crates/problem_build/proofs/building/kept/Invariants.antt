@@ -6,6 +6,6 @@ use Rattle.problem_build.specs.declared.entries.Listed.{Listed}
 use Rattle.problem_build.proofs.building.kept.Given as goal
 
 abbrev pub invariant-loop-i : goal.invariant-loop-i
-invariant-loop-i l = 
+invariant-loop-i l =
     map (λ (e : Bor Listed). shown_entry e.now) l.found.items ++ items_where_true (drop l.i l.marks) (map shown_entry (drop l.i l.entries))
     ≡ items_where_true l.marks (map shown_entry l.entries)

@@ -33,14 +33,14 @@ loop-place-preserved c =
     c.take_row-row.ensures.row ∙ c.loop-place.invariant.left place (omega arith) in
     record {
       made =
-      c.in_ok-push.ensures.added
-      ∙ ap (λ (p : List (List Constraint)). p ++ map kept c.take_row-row.result ∷ []) c.loop-place.invariant.made
-      ∙ ap (λ (row : List Constraint). take place all ++ row ∷ []) (ap (map kept) here ∙ c.requires.kept place [] below)
-      ∙ sym (take_more all place [] below);
+          c.in_ok-push.ensures.added
+          ∙ ap (λ (p : List (List Constraint)). p ++ map kept c.take_row-row.result ∷ []) c.loop-place.invariant.made
+          ∙ ap (λ (row : List Constraint). take place all ++ row ∷ []) (ap (map kept) here ∙ c.requires.kept place [] below)
+          ∙ sym (take_more all place [] below);
       long = ap length c.take_row-row.ensures.rows ∙ length-set c.loop-place.rows.items place [] ∙ c.loop-place.invariant.long;
       left = λ k h.
-        let other : k ≢ place = omega arith in
-        ap (λ (r : List (List Constraint)). get_or r k []) c.take_row-row.ensures.rows
-        ∙ get_or-set_other c.loop-place.rows.items place k [] [] other
-        ∙ c.loop-place.invariant.left k (omega arith);
+          let other : k ≢ place = omega arith in
+          ap (λ (r : List (List Constraint)). get_or r k []) c.take_row-row.ensures.rows
+          ∙ get_or-set_other c.loop-place.rows.items place k [] [] other
+          ∙ c.loop-place.invariant.left k (omega arith);
     }

@@ -10,5 +10,5 @@ use Rattle.op_properties.specs.Offers.{shown}
 use Rattle.problem_build.proofs.candidates.add_elsewhere.Given as goal
 
 abbrev pub invariant-loop-i : goal.invariant-loop-i
-invariant-loop-i l = 
+invariant-loop-i l =
     l.found.items ++ numbers_where (l.first + l.i) (spec.passes_elsewhere (shown_entry l.entry) l.requirement) (map (λ (e : Bor Listed). shown_entry e.now) (drop l.i l.pool.entries.now)) ≡ l.initial.found.items ++ numbers_where l.first (spec.passes_elsewhere (shown_entry l.entry) l.requirement) (map (λ (e : Bor Listed). shown_entry e.now) l.pool.entries.now)

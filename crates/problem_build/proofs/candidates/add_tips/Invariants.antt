@@ -10,5 +10,5 @@ use Rattle.op_properties.specs.Offers.{shown}
 use Rattle.problem_build.proofs.candidates.add_tips.Given as goal
 
 abbrev pub invariant-loop-i : goal.invariant-loop-i
-invariant-loop-i l = 
+invariant-loop-i l =
     l.found.items ++ numbers_where (l.first + l.i) (passing.passes l.requirement) (map shown (drop l.i l.pool.tips.now)) ≡ l.initial.found.items ++ numbers_where l.first (passing.passes l.requirement) (map shown l.pool.tips.now)

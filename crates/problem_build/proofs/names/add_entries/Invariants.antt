@@ -10,5 +10,5 @@ use Rattle.cluster_objects.specs.declared.resolutions.Tip.{Tip}
 use Rattle.problem_build.proofs.names.add_entries.Given as goal
 
 abbrev pub invariant-loop-entry : goal.invariant-loop-entry
-invariant-loop-entry l = 
+invariant-loop-entry l =
     l.names.items ++ map (λ (e : Entry). variable.Entry (spec.taken l.tips e)) (map (λ (e : Bor Listed). shown_entry e.now) (drop l.entry-index l.entries)) ≡ l.initial.names.items ++ map (λ (e : Entry). variable.Entry (spec.taken l.tips e)) (map (λ (e : Bor Listed). shown_entry e.now) l.entries)

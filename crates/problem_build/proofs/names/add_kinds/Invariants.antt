@@ -10,5 +10,5 @@ use Rattle.cluster_objects.specs.declared.resolutions.Tip.{Tip}
 use Rattle.problem_build.proofs.names.add_kinds.Given as goal
 
 abbrev pub invariant-loop-kind : goal.invariant-loop-kind
-invariant-loop-kind l = 
+invariant-loop-kind l =
     l.names.items ++ map variable.OneKind (drop l.kind-index l.kinds) ≡ l.initial.names.items ++ map variable.OneKind l.kinds

@@ -10,5 +10,5 @@ use Rattle.cluster_objects.specs.declared.resolutions.Tip.{Tip}
 use Rattle.problem_build.proofs.names.add_packages.Given as goal
 
 abbrev pub invariant-loop-name : goal.invariant-loop-name
-invariant-loop-name l = 
+invariant-loop-name l =
     l.names.items ++ map variable.OnePackage (drop l.name-index l.packages) ≡ l.initial.names.items ++ map variable.OnePackage l.packages

@@ -10,5 +10,5 @@ use Rattle.cluster_objects.specs.declared.resolutions.Tip.{Tip}
 use Rattle.problem_build.proofs.names.add_subscriptions.Given as goal
 
 abbrev pub invariant-loop-subscription : goal.invariant-loop-subscription
-invariant-loop-subscription l = 
+invariant-loop-subscription l =
     l.names.items ++ map (λ (s : List ℕ × SubSpec). variable.Subscription s.0) (drop l.subscription-index l.subscriptions) ≡ l.initial.names.items ++ map (λ (s : List ℕ × SubSpec). variable.Subscription s.0) l.subscriptions

@@ -6,6 +6,6 @@ use Rattle.problem_build.specs.declared.entries.Listed.{Listed}
 use Rattle.problem_build.proofs.rows.add_entries.Given as goal
 
 abbrev pub invariant-loop-entry : goal.invariant-loop-entry
-invariant-loop-entry l = 
+invariant-loop-entry l =
     l.rows.items ++ map (spec.of_entry (shown_choices l.pool)) (map (λ (e : Bor Listed). shown_entry e.now) (drop l.entry-index l.pool.entries.now))
     ≡ l.initial.rows.items ++ map (spec.of_entry (shown_choices l.pool)) (map (λ (e : Bor Listed). shown_entry e.now) l.pool.entries.now)

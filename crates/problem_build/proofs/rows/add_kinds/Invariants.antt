@@ -10,5 +10,5 @@ use Rattle.op_constraints.specs.declared.Constraint.TheVariants.{AtMost}
 use Rattle.problem_build.proofs.rows.add_kinds.Given as goal
 
 abbrev pub invariant-loop-kind : goal.invariant-loop-kind
-invariant-loop-kind l = 
+invariant-loop-kind l =
     l.rows.items ++ map (λ (x : Gvk). AtMost 1 (numbers_where l.first (spec.has_kind x) (map (λ (o : Bor Offer). shown o.now) l.offers)) ∷ []) (drop l.kind-index l.kinds) ≡ l.initial.rows.items ++ map (λ (x : Gvk). AtMost 1 (numbers_where l.first (spec.has_kind x) (map (λ (o : Bor Offer). shown o.now) l.offers)) ∷ []) l.kinds

@@ -10,5 +10,5 @@ use Rattle.op_constraints.specs.declared.Constraint.TheVariants.{AtMost}
 use Rattle.problem_build.proofs.rows.add_packages.Given as goal
 
 abbrev pub invariant-loop-name : goal.invariant-loop-name
-invariant-loop-name l = 
+invariant-loop-name l =
     l.rows.items ++ map (λ (x : List ℕ). AtMost 1 (numbers_where l.first (spec.is_of_package x) (map (λ (o : Bor Offer). shown o.now) l.offers)) ∷ []) (drop l.name-index l.packages) ≡ l.initial.rows.items ++ map (λ (x : List ℕ). AtMost 1 (numbers_where l.first (spec.is_of_package x) (map (λ (o : Bor Offer). shown o.now) l.offers)) ∷ []) l.packages

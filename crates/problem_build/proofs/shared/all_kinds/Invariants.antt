@@ -8,6 +8,6 @@ use Rattle.problem_build.specs.Variables as spec
 use Rattle.problem_build.proofs.shared.all_kinds.Given as goal
 
 abbrev pub invariant-loop-offer : goal.invariant-loop-offer
-invariant-loop-offer l = 
+invariant-loop-offer l =
     fold (insert_key spec.kind_cmp) l.set.keys (flat_map (λ (o : Provided). o.kinds) (map (λ (o : Bor Offer). shown o.now) (drop l.offer-index l.offers)))
     ≡ fold (insert_key spec.kind_cmp) [] (flat_map (λ (o : Provided). o.kinds) (map (λ (o : Bor Offer). shown o.now) l.offers))

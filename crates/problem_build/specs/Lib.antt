@@ -1,0 +1,8 @@
+pub mod Entries
+pub mod Numbers
+pub mod Asking
+pub mod Reaching
+pub mod Variables
+pub mod Building
+pub mod Shown
+pub mod Laws

@@ -2,12 +2,14 @@
 use Rattle.std.proofs.Common.{◌≡◌, ◌∙◌, ℕ, List, [], append-nil, Bool, true, false, not, refl, sym, subst, Option, Some, None, Result, Ok, Err, inl, inr, ◌⊎◌}
 use Rattle.std.proofs.lemmas.Bool.{cases_Bool}
 use Rattle.std.specs.Io.KnownBytes.{Appends}
-use Rattle.olm_base.specs.Outcome.{Ends}
 use Rattle.olm_io.specs.Outside.{AppendsFront, Puts}
-use Rattle.olm_io.proofs.Told.{appends_no_front, puts_nothing, front_of_more}
+use Rattle.olm_io.proofs.Told.{puts_nothing}
 use Rattle.olm_cli.specs.declared.causes.Cause.{Cause}
-use Rattle.olm_cli.specs.declared.causes.Cause.TheVariants.{NoChoice, BadWords, Stream, Field, NotFirstForm, InputFailed, OutputFailed, NoMemory, TooLong}
+use Rattle.olm_cli.specs.declared.causes.Cause.TheVariants.{FolderFailed, InputFailed, OutputFailed, NoMemory}
 use Rattle.olm_cli.specs.Causes.{is_free, is_free_end, HasRisen}
+use Rattle.olm_cli.specs.Commands.{CatalogRuns, TaskRuns}
+use Rattle.olm_cli.specs.Places.{Holds}
+use Rattle.olm_cli.specs.Words.{Place, Task}
 use Rattle.olm_cli.specs.Runs.{Ran, stopped, After, Comes}
 
 -- the run that stops for a cause
@@ -54,17 +56,16 @@ told_comes Permits cause told old new (inr none) came =
     (came.0, came.1, (λ bound. absurd (let bad : true ≡ false = bound in cc)), some_front (not (is_free_end (Some cause))) old new (came.0).output came.3)
 
 -- the count rose of what the cause names
-risen_for : (Input Output : Type 0) (cause : Cause) → (Some cause ≡ Some InputFailed → Input) → (Some cause ≡ Some OutputFailed → Output) → HasRisen Input Output (Some cause)
-risen_for Input Output InputFailed input output = input refl
-risen_for Input Output OutputFailed input output = output refl
-risen_for Input Output NoChoice input output = tt
-risen_for Input Output BadWords input output = tt
-risen_for Input Output (Stream fault) input output = tt
-risen_for Input Output (Field blob path kind) input output = tt
-risen_for Input Output NotFirstForm input output = tt
-risen_for Input Output NoMemory input output = tt
-risen_for Input Output TooLong input output = tt
+risen_for : (Folder Input Output : Type 0) (cause : Cause) → (Some cause ≡ Some FolderFailed → Folder) → (Some cause ≡ Some InputFailed → Input) → (Some cause ≡ Some OutputFailed → Output) → HasRisen Folder Input Output (Some cause)
+risen_for Folder Input Output FolderFailed folder input output = folder refl
+risen_for Folder Input Output InputFailed folder input output = input refl
+risen_for Folder Input Output OutputFailed folder input output = output refl
+risen_for Folder Input Output _ folder input output = tt
 
-pub told_risen : (Input Output : Type 0) (cause told : Cause) → (told ≡ cause) ⊎ (told ≡ NoMemory) → (Some cause ≡ Some InputFailed → Input) → (Some cause ≡ Some OutputFailed → Output) → HasRisen Input Output (Some told)
-told_risen Input Output cause told (inl same) input output = subst (λ t. HasRisen Input Output (Some t)) (sym same) (risen_for Input Output cause input output)
-told_risen Input Output cause told (inr none) input output = subst (λ t. HasRisen Input Output (Some t)) (sym none) tt
+pub told_risen : (Folder Input Output : Type 0) (cause told : Cause) → (told ≡ cause) ⊎ (told ≡ NoMemory) → (Some cause ≡ Some FolderFailed → Folder) → (Some cause ≡ Some InputFailed → Input) → (Some cause ≡ Some OutputFailed → Output) → HasRisen Folder Input Output (Some told)
+told_risen Folder Input Output cause told (inl same) folder input output = subst (λ t. HasRisen Folder Input Output (Some t)) (sym same) (risen_for Folder Input Output cause folder input output)
+told_risen Folder Input Output cause told (inr none) folder input output = subst (λ t. HasRisen Folder Input Output (Some t)) (sym none) tt
+
+-- a run over what a place holds is a run of the command
+pub placed_comes : (place : Place) (task : Task) (files : Option (List (List ℕ × List ℕ))) (left : Option (List ℕ)) (found : Result (List ℕ) Cause) (end : Option Cause) (old new : Option (List ℕ)) → Holds place files left found → Comes (After found (TaskRuns task)) end old new → Comes (CatalogRuns place task files left) end old new
+placed_comes place task files left found end old new holds came = (came.0, (found, holds, came.1), came.2, came.3)

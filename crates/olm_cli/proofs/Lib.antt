@@ -2,4 +2,6 @@ mod Came
 mod Counted
 mod Forms
 mod Decided
+mod Listings
 mod Resolved
+mod Tasks

@@ -1,12 +1,11 @@
 -- There is a run of `resolve` for each form, and the form of a text that was read.
-use Rattle.std.proofs.Common.{◌≡◌, ◌∙◌, ℕ, List, [], ◌∷◌, map, refl, sym, ap, Option, Some, None, Result, Ok, Err}
+use Rattle.std.proofs.Common.{◌≡◌, ◌∙◌, ℕ, List, [], ◌∷◌, refl, sym, ap, Option, Some, None, Ok}
 use Rattle.catalog_stream.specs.declared.blobs.StreamFault.{StreamFault}
 use Rattle.catalog_stream.specs.Stream.{BlobView, all_or_fault}
 use Rattle.olm_cli.specs.Choice.{offered, IsDecision, printed}
 use Rattle.olm_cli.specs.FirstForm.{form_of}
 use Rattle.olm_cli.specs.Resolving.{ended, or_refused, Decides}
 use Rattle.olm_cli.specs.Runs.{Ran}
-use Rattle.olm_cli.specs.declared.causes.Cause.{Cause}
 use Rattle.olm_cli.specs.declared.choice.Decision.{Decision}
 use Rattle.olm_cli.specs.declared.choice.Decision.TheVariants.{Chosen, Refused}
 use Rattle.olm_cli.specs.declared.first_form.Form.{Form}

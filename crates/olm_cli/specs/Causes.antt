@@ -1,21 +1,17 @@
 -- The causes for which a run ends with another status than 0, and their statuses.
-use Rattle.std.specs.Prelude.{◌≡◌, ◌⊎◌, ℕ, Bool, true, false, Option, Some, None, ⊤}
+use Rattle.std.specs.Prelude.{ℕ, Bool, true, false, Option, Some, None, ⊤}
 use Rattle.olm_cli.specs.declared.causes.Exit.{Exit}
 use Rattle.olm_cli.specs.declared.causes.Exit.TheVariants as exit
 use Rattle.olm_cli.specs.declared.causes.Cause.{Cause}
-use Rattle.olm_cli.specs.declared.causes.Cause.TheVariants.{NoChoice, BadWords, Stream, Field, NotFirstForm, InputFailed, OutputFailed, NoMemory, TooLong}
+use Rattle.olm_cli.specs.declared.causes.Cause.TheVariants.{NoChoice, BrokenRules, NoChannel, BadWords, Stream, SplitFile, FileNotRead, Field, NotFirstForm, FolderFailed, InputFailed, OutputFailed, NoMemory, TooLong}
 
 -- may come at any time: a fault of the outside, and want of memory
 abbrev pub is_free : Cause → Bool
+is_free FolderFailed = true
 is_free InputFailed = true
 is_free OutputFailed = true
 is_free NoMemory = true
-is_free NoChoice = false
-is_free BadWords = false
-is_free (Stream fault) = false
-is_free (Field blob path kind) = false
-is_free NotFirstForm = false
-is_free TooLong = false
+is_free _ = false
 
 -- a run that ended so; without a cause it is done
 abbrev pub is_free_end : Option Cause → Bool
@@ -25,10 +21,15 @@ is_free_end (Some cause) = is_free cause
 -- the status of a run that ended so
 abbrev pub exit_of : Cause → Exit
 exit_of NoChoice = exit.Refused
+exit_of BrokenRules = exit.Refused
+exit_of NoChannel = exit.Refused
 exit_of BadWords = exit.Words
 exit_of (Stream fault) = exit.Input
+exit_of (SplitFile path fault) = exit.Input
+exit_of (FileNotRead path) = exit.Input
 exit_of (Field blob path kind) = exit.Input
 exit_of NotFirstForm = exit.Input
+exit_of FolderFailed = exit.Outside
 exit_of InputFailed = exit.Outside
 exit_of OutputFailed = exit.Outside
 exit_of NoMemory = exit.Memory
@@ -48,31 +49,39 @@ number_of exit.Outside = 4
 number_of exit.Memory = 5
 number_of exit.Limit = 8
 
--- the run has ended with a decision
-abbrev pub is_decided : Exit → Bool
-is_decided exit.Done = true
-is_decided exit.Refused = true
-is_decided exit.Words = false
-is_decided exit.Input = false
-is_decided exit.Outside = false
-is_decided exit.Memory = false
-is_decided exit.Limit = false
+-- the run has ended with an answer
+abbrev pub is_answered : Exit → Bool
+is_answered exit.Done = true
+is_answered exit.Refused = true
+is_answered _ = false
 
--- may come while a text is read as a catalog, and while the input is
+-- may come once the text has been read
 abbrev pub is_of_text : Cause → Bool
-is_of_text (Stream fault) = true
-is_of_text (Field blob path kind) = true
-is_of_text NotFirstForm = true
-is_of_text NoMemory = true
-is_of_text _ = false
+is_of_text BadWords = false
+is_of_text FolderFailed = false
+is_of_text InputFailed = false
+is_of_text OutputFailed = false
+is_of_text _ = true
 
+-- may come while the text is read
 abbrev pub is_of_reading : Cause → Bool
-is_of_reading InputFailed = true
-is_of_reading TooLong = true
-is_of_reading cause = is_of_text cause
+is_of_reading BadWords = false
+is_of_reading OutputFailed = false
+is_of_reading NoChoice = false
+is_of_reading BrokenRules = false
+is_of_reading NoChannel = false
+is_of_reading _ = true
+
+-- a run may end so once its text has been read
+abbrev pub is_after_reading : Option Cause → Bool
+is_after_reading (Some BadWords) = false
+is_after_reading (Some FolderFailed) = false
+is_after_reading (Some InputFailed) = false
+is_after_reading _ = true
 
 -- Of the facts that a count rose, the one that a cause claims: that of what its line names.
-abbrev pub HasRisen : (Input Output : Type 0) → Option Cause → Type 0
-HasRisen Input Output (Some InputFailed) = Input
-HasRisen Input Output (Some OutputFailed) = Output
-HasRisen Input Output end = ⊤
+abbrev pub HasRisen : (Folder Input Output : Type 0) → Option Cause → Type 0
+HasRisen Folder Input Output (Some FolderFailed) = Folder
+HasRisen Folder Input Output (Some InputFailed) = Input
+HasRisen Folder Input Output (Some OutputFailed) = Output
+HasRisen Folder Input Output _ = ⊤

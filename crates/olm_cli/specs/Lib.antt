@@ -1,9 +1,12 @@
 pub mod Causes
+pub mod Checking
 pub mod Choice
 pub mod Commands
 pub mod FieldReading
 pub mod FirstForm
+pub mod Graph
 pub mod Lines
+pub mod Places
 pub mod Reading
 pub mod Resolving
 pub mod Runs

@@ -8,7 +8,7 @@ use Rattle.olm_base.specs.declared.fields.FieldKind.TheVariants as kind
 use Rattle.olm_cli.specs.declared.causes.Cause.{Cause}
 use Rattle.olm_cli.specs.declared.lines.Line.{Line}
 use Rattle.olm_cli.specs.declared.lines.Line.TheVariants.{Fixed, Made}
-use Rattle.olm_cli.specs.declared.causes.Cause.TheVariants.{NoChoice, BadWords, Stream, Field, NotFirstForm, InputFailed, OutputFailed, NoMemory, TooLong}
+use Rattle.olm_cli.specs.declared.causes.Cause.TheVariants.{NoChoice, BrokenRules, NoChannel, BadWords, Stream, SplitFile, FileNotRead, Field, NotFirstForm, FolderFailed, InputFailed, OutputFailed, NoMemory, TooLong}
 
 -- `at N: WHAT`
 abbrev pub placed : ℕ → List ℕ → List ℕ
@@ -37,10 +37,15 @@ field_text blob path kind = codes "blob " ++ decimal blob ++ codes ": " ++ path 
 
 abbrev pub cause_text : Cause → List ℕ
 cause_text NoChoice = codes "no choice"
+cause_text BrokenRules = codes "catalog rules"
+cause_text NoChannel = codes "no channel"
 cause_text BadWords = codes "words"
 cause_text (Stream fault) = stream_text fault
+cause_text (SplitFile path fault) = path ++ codes " " ++ stream_text fault
+cause_text (FileNotRead path) = codes "file " ++ path ++ codes " isn't read"
 cause_text (Field blob path kind) = field_text blob path kind
 cause_text NotFirstForm = codes "first form"
+cause_text FolderFailed = codes "folder failed"
 cause_text InputFailed = codes "input failed"
 cause_text OutputFailed = codes "output failed"
 cause_text NoMemory = codes "out of memory"

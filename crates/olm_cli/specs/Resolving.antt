@@ -9,7 +9,7 @@ use Rattle.olm_cli.specs.declared.choice.Decision.TheVariants.{Chosen, Refused}
 use Rattle.olm_cli.specs.declared.first_form.Form.{Form}
 use Rattle.olm_cli.specs.Choice.{offered, IsDecision, printed}
 use Rattle.olm_cli.specs.FirstForm.{form_of}
-use Rattle.olm_cli.specs.Reading.{catalog_of, within_limit}
+use Rattle.olm_cli.specs.Reading.{valid_of}
 use Rattle.olm_cli.specs.Runs.{Ran, After}
 
 abbrev pub or_refused : Option Form → Result Form Cause
@@ -20,12 +20,9 @@ or_refused (Some form) = Ok form
 abbrev pub form_of_text : List ℕ → Result Form Cause
 form_of_text text = or_refused (form_of (blobs text).blobs)
 
--- the text is read as a catalog, and then as one of the first form
-abbrev pub form_after : List ℕ → Result Form Cause
-form_after text = and_then (catalog_of text) (λ found. form_of_text text)
-
+-- the text is read as a catalog that breaks no rule, and then as one of the first form
 abbrev pub read_form : List ℕ → Result Form Cause
-read_form text = and_then (within_limit text) form_after
+read_form text = and_then (valid_of text) (λ read. form_of_text text)
 
 -- how a run with this decision ends
 abbrev pub ended : Decision → Option Cause
@@ -37,6 +34,6 @@ abbrev pub Decides : List ℕ → List ℕ → Form → Ran → Type 0
 Decides package_name channel form ran =
     (decision : Decision) × IsDecision (offered form package_name channel) decision × (ran ≡ record { output = printed decision; end = ended decision })
 
--- for a package, a channel and the input's text
+-- for a package, a channel and a text
 abbrev pub ResolveRuns : List ℕ → List ℕ → List ℕ → Ran → Type 0
 ResolveRuns package_name channel text = After (read_form text) (Decides package_name channel)

@@ -1,66 +1,117 @@
 // The top call.
-ghost use Rattle.std.specs.Prelude.{List, ℕ, ◌≡◌, ◌≢◌, ◌↔◌, ◌≤◌, true, Some, None};
+ghost use Rattle.std.specs.Prelude.{◌≡◌, ◌≢◌, ◌↔◌, ◌≤◌, length, true, Some, None};
 ghost use Rattle.std.specs.declared.option.Option.{Option};
 ghost use Rattle.std.specs.Io.KnownBytes.{IsAtEnd};
-ghost use Rattle.olm_io.specs.Outside.{AppendsFront, HasCause, IsTold, Rose};
+ghost use Rattle.olm_io.specs.Outside.{AppendsFront, HasCause, Rose};
+ghost use Rattle.fbc_read.specs.Bodies.{input_limit};
 ghost use Rattle.olm_cli.specs.declared.causes.Cause.{Cause};
-ghost use Rattle.olm_cli.specs.Causes.{HasRisen, is_decided, status_of};
-ghost use Rattle.olm_cli.specs.Commands.{Runs};
+ghost use Rattle.olm_cli.specs.Causes.{HasRisen, is_after_reading, is_answered, status_of};
+ghost use Rattle.olm_cli.specs.Commands as spec;
 ghost use Rattle.olm_cli.specs.Lines.{told_line};
+ghost use Rattle.olm_cli.specs.Places.{is_folder, is_input};
 ghost use Rattle.olm_cli.specs.Runs.{Comes};
-ghost use Rattle.olm_cli.specs.Words as spec;
+ghost use Rattle.olm_cli.specs.Words.{command_of, place_view, task_view};
 
 use crate::causes::{Cause, Exit, exit_of};
+use crate::checking::check_text;
+use crate::graph::graph_text;
 use crate::lines::tell_cause;
-use crate::resolving::resolve;
-use crate::words::{Command, command_of};
+use crate::places::read_place;
+use crate::resolving::resolve_text;
+use crate::words::{Command, Place, Task, command_of};
 use olm_base::Text;
+use olm_folder::Folder;
 use olm_io::{Sink, Source};
 use std::alloc::Global;
 
-/// Runs the command that the words stand for, up to the line on `err`.
-fn run<S: Source, O: Sink>(
+/// Does a task over a text.
+fn run_task<O: Sink>(alloc: Global, task: Task<'_>, text: &[u8], out: &mut O) -> Option<Cause>
+    requires within { length text.now ≤ input_limit }
+    ensures run { Comes (spec.TaskRuns (task_view task.entry) text.now) result (O.held out.old) (O.held out.new) }
+    ensures cause { HasCause (O.faults out.old) (O.faults out.new) (result ≡ Some Cause.OutputFailed) }
+    ensures kind { is_after_reading result ≡ true }
+{
+    match task {
+        Task::Check => check_text(alloc, text, out),
+        Task::Graph(names) => graph_text(alloc, text, names, out),
+        Task::Resolve(names) => resolve_text(alloc, text, names, out),
+    }
+}
+
+/// Reads the text of a place, and does a task over it.
+fn run_catalog<F: Folder, S: Source, O: Sink>(
     alloc: Global,
-    words: &[Text],
+    place: Place<'_>,
+    task: Task<'_>,
+    folder: &mut F,
     input: &mut S,
     out: &mut O,
 ) -> Option<Cause>
-    ensures run { (text : List ℕ) × IsTold (S.left input.old) text
-        × Comes (Runs (spec.command_of words.now) text) result (O.held out.old) (O.held out.new) }
-    ensures words { (result ≡ Some Cause.BadWords) ↔ (spec.command_of words.now ≡ None) }
+    ensures run { Comes (spec.CatalogRuns (place_view place.entry) (task_view task.entry) (F.held folder.old) (S.left input.old)) result (O.held out.old) (O.held out.new) }
+    ensures words { result ≢ Some Cause.BadWords }
+    ensures same { F.held folder.new ≡ F.held folder.old }
+    ensures folder { HasCause (F.faults folder.old) (F.faults folder.new) (result ≡ Some Cause.FolderFailed) }
     ensures input { HasCause (S.faults input.old) (S.faults input.new) (result ≡ Some Cause.InputFailed) }
     ensures output { HasCause (O.faults out.old) (O.faults out.new) (result ≡ Some Cause.OutputFailed) }
-    ensures end { is_decided (status_of result) ≡ true → IsAtEnd (S.left input.new) }
+    ensures of_folder { result ≡ Some Cause.FolderFailed → is_folder (place_view place.entry) ≡ true }
+    ensures of_input { result ≡ Some Cause.InputFailed → is_input (place_view place.entry) ≡ true }
+    ensures end { is_answered (status_of result) ≡ true → is_input (place_view place.entry) ≡ true → IsAtEnd (S.left input.new) }
+{
+    match read_place(alloc, place, folder, input) {
+        Ok(text) => run_task(alloc, task, text.as_slice(), out),
+        Err(cause) => Some(cause),
+    }
+}
+
+/// Runs the command that the words stand for, up to the line on `err`.
+fn run<F: Folder, S: Source, O: Sink>(
+    alloc: Global,
+    words: &[Text],
+    folder: &mut F,
+    input: &mut S,
+    out: &mut O,
+) -> Option<Cause>
+    ensures run { Comes (spec.Runs (command_of words.now) (F.held folder.old) (S.left input.old)) result (O.held out.old) (O.held out.new) }
+    ensures words { (result ≡ Some Cause.BadWords) ↔ (command_of words.now ≡ None) }
+    ensures same { F.held folder.new ≡ F.held folder.old }
+    ensures folder { HasCause (F.faults folder.old) (F.faults folder.new) (result ≡ Some Cause.FolderFailed) }
+    ensures input { HasCause (S.faults input.old) (S.faults input.new) (result ≡ Some Cause.InputFailed) }
+    ensures output { HasCause (O.faults out.old) (O.faults out.new) (result ≡ Some Cause.OutputFailed) }
+    ensures of_folder { result ≡ Some Cause.FolderFailed → spec.reads_folder (command_of words.now) ≡ true }
+    ensures of_input { result ≡ Some Cause.InputFailed → spec.reads_input (command_of words.now) ≡ true }
+    ensures end { is_answered (status_of result) ≡ true → spec.reads_input (command_of words.now) ≡ true → IsAtEnd (S.left input.new) }
 {
     match command_of(words) {
         None => Some(Cause::BadWords),
-        Some(
-            Command::Resolve {
-                package_name,
-                channel,
-            },
-        ) => resolve(alloc, package_name, channel, input, out),
+        Some(Command::OnCatalog { place, task }) => {
+            run_catalog(alloc, place, task, folder, input, out)
+        }
     }
 }
 
 /// Runs the words of a command line, without the program's own name.
-pub fn olmctl<S: Source, O: Sink, E: Sink>(
+pub fn olmctl<F: Folder, S: Source, O: Sink, E: Sink>(
     alloc: Global,
     words: &[Text],
+    folder: &mut F,
     input: &mut S,
     out: &mut O,
     err: &mut E,
 ) -> Exit
-    ensures run { (text : List ℕ) × IsTold (S.left input.old) text
-        × (end : Option Cause) × (status_of end ≡ result)
-        × Comes (Runs (spec.command_of words.now) text) end (O.held out.old) (O.held out.new)
-        × HasRisen (Rose (S.faults input.old) (S.faults input.new)) (Rose (O.faults out.old) (O.faults out.new)) end
+    ensures run { (end : Option Cause) × (status_of end ≡ result)
+        × Comes (spec.Runs (command_of words.now) (F.held folder.old) (S.left input.old)) end (O.held out.old) (O.held out.new)
+        × HasRisen
+        ((spec.reads_folder (command_of words.now) ≡ true) × Rose (F.faults folder.old) (F.faults folder.new))
+        ((spec.reads_input (command_of words.now) ≡ true) × Rose (S.faults input.old) (S.faults input.new))
+        (Rose (O.faults out.old) (O.faults out.new)) end
         × AppendsFront (E.held err.old) (E.held err.new) (told_line end) }
-    ensures words { (result ≡ Exit.Words) ↔ (spec.command_of words.now ≡ None) }
-    ensures end { is_decided result ≡ true → IsAtEnd (S.left input.new) }
-    ensures counts { (S.faults input.old ≤ S.faults input.new) × (O.faults out.old ≤ O.faults out.new) × (E.faults err.old ≤ E.faults err.new) }
+    ensures words { (result ≡ Exit.Words) ↔ (command_of words.now ≡ None) }
+    ensures same { F.held folder.new ≡ F.held folder.old }
+    ensures end { is_answered result ≡ true → spec.reads_input (command_of words.now) ≡ true → IsAtEnd (S.left input.new) }
+    ensures counts { (F.faults folder.old ≤ F.faults folder.new) × (S.faults input.old ≤ S.faults input.new)
+        × (O.faults out.old ≤ O.faults out.new) × (E.faults err.old ≤ E.faults err.new) }
 {
-    match run(alloc, words, input, out) {
+    match run(alloc, words, folder, input, out) {
         None => Exit::Done,
         Some(cause) => {
             let told = tell_cause(alloc, cause, err);

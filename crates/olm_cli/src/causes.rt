@@ -10,17 +10,17 @@ use olm_base::{FieldKind, Text};
 pub enum Exit {
     /// Status 0: done.
     Done,
-    /// Status 1: no choice meets the constraints.
+    /// Status 1: no choice meets the constraints, the catalog breaks a rule, or it has no such channel.
     Refused,
     /// Status 2: the words are no command line of this program.
     Words,
-    /// Status 3: the input isn't a catalog of the first form.
+    /// Status 3: the input or the folder isn't a catalog, or not one of the first form where that is asked for.
     Input,
-    /// Status 4: a call of the input or of the output failed.
+    /// Status 4: a call of the folder, the input or the output failed.
     Outside,
     /// Status 5: memory ran out.
     Memory,
-    /// Status 8: the input is longer than the limit.
+    /// Status 8: the input, or the folder's files together, are longer than the limit.
     Limit,
 }
 
@@ -29,10 +29,23 @@ pub enum Exit {
 pub enum Cause {
     /// No choice meets the constraints.
     NoChoice,
+    /// The catalog breaks a rule.
+    BrokenRules,
+    /// The catalog has no channel of these names.
+    NoChannel,
     /// The words are no command line of this program.
     BadWords,
     /// The input is no stream of blobs.
     Stream(StreamFault),
+    /// The file of this path is no stream of blobs by itself.
+    SplitFile {
+        path: Text,
+        fault: StreamFault,
+    },
+    /// A file of this path would belong to the catalog, and isn't read.
+    FileNotRead {
+        path: Text,
+    },
     /// The value at this path of the blob of this number is not what it must be.
     Field {
         blob: u32,
@@ -41,13 +54,15 @@ pub enum Cause {
     },
     /// The catalog isn't of the first form.
     NotFirstForm,
+    /// A call of the folder failed.
+    FolderFailed,
     /// A call of the input failed.
     InputFailed,
     /// A call of the output failed.
     OutputFailed,
     /// Memory ran out.
     NoMemory,
-    /// The input is longer than the limit.
+    /// The input, or the folder's files together, are longer than the limit.
     TooLong,
 }
 
@@ -56,10 +71,11 @@ pub fn exit_of(cause: &Cause) -> Exit
     ensures { result ≡ spec.exit_of cause.now }
 {
     match cause {
-        Cause::NoChoice => Exit::Refused,
+        Cause::NoChoice | Cause::BrokenRules | Cause::NoChannel => Exit::Refused,
         Cause::BadWords => Exit::Words,
-        Cause::Stream(_) | Cause::Field { .. } | Cause::NotFirstForm => Exit::Input,
-        Cause::InputFailed | Cause::OutputFailed => Exit::Outside,
+        Cause::Stream(_) | Cause::SplitFile { .. } | Cause::FileNotRead { .. } => Exit::Input,
+        Cause::Field { .. } | Cause::NotFirstForm => Exit::Input,
+        Cause::FolderFailed | Cause::InputFailed | Cause::OutputFailed => Exit::Outside,
         Cause::NoMemory => Exit::Memory,
         Cause::TooLong => Exit::Limit,
     }

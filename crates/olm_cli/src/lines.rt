@@ -104,6 +104,26 @@ fn field_line(alloc: Global, blob: u32, path: &Text, kind: FieldKind) -> Result<
     Ok(bytes)
 }
 
+fn split_line(alloc: Global, path: &Text, fault: StreamFault) -> Result<Vec<u8>, Memory>
+    ensures { IfOk result (λ line. line.items ≡ spec.line_of (Cause.SplitFile path.now fault)) }
+{
+    let mut bytes = Vec::from_slice(alloc, b"olmctl: ")?;
+    bytes.extend_from_slice(path.as_slice())?;
+    bytes.push(b' ')?;
+    push_stream(&mut bytes, alloc, fault)?;
+    bytes.push(b'\n')?;
+    Ok(bytes)
+}
+
+fn unread_line(alloc: Global, path: &Text) -> Result<Vec<u8>, Memory>
+    ensures { IfOk result (λ line. line.items ≡ spec.line_of (Cause.FileNotRead path.now)) }
+{
+    let mut bytes = Vec::from_slice(alloc, b"olmctl: file ")?;
+    bytes.extend_from_slice(path.as_slice())?;
+    bytes.extend_from_slice(b" isn't read\n")?;
+    Ok(bytes)
+}
+
 /// The line of a cause: it stands in the program, or it is made of the cause's parts.
 #[derive(Drop)]
 enum Line {
@@ -128,12 +148,17 @@ fn line_of(alloc: Global, cause: &Cause) -> Result<Line, Memory>
 {
     match cause {
         Cause::NoChoice => Ok(Line::Fixed(b"olmctl: no choice\n")),
+        Cause::BrokenRules => Ok(Line::Fixed(b"olmctl: catalog rules\n")),
+        Cause::NoChannel => Ok(Line::Fixed(b"olmctl: no channel\n")),
         Cause::BadWords => Ok(Line::Fixed(b"olmctl: words\n")),
         Cause::Stream(fault) => Ok(Line::Made(stream_line(alloc, *fault)?)),
+        Cause::SplitFile { path, fault } => Ok(Line::Made(split_line(alloc, path, *fault)?)),
+        Cause::FileNotRead { path } => Ok(Line::Made(unread_line(alloc, path)?)),
         Cause::Field { blob, path, kind } => {
             Ok(Line::Made(field_line(alloc, *blob, path, *kind)?))
         }
         Cause::NotFirstForm => Ok(Line::Fixed(b"olmctl: first form\n")),
+        Cause::FolderFailed => Ok(Line::Fixed(b"olmctl: folder failed\n")),
         Cause::InputFailed => Ok(Line::Fixed(b"olmctl: input failed\n")),
         Cause::OutputFailed => Ok(Line::Fixed(b"olmctl: output failed\n")),
         Cause::NoMemory => Ok(Line::Fixed(b"olmctl: out of memory\n")),

@@ -1,24 +1,24 @@
 // The command `resolve`.
-ghost use Rattle.std.specs.Prelude.{List, ℕ, ◌≡◌, ◌≢◌, ◌≤◌, ◌++◌, length, not, true, IfOk, IfErr, OnOk, IsErrOf, Some};
-ghost use Rattle.std.specs.Io.KnownBytes.{IsAtEnd};
+ghost use Rattle.std.specs.Prelude.{◌≡◌, ◌≤◌, ◌++◌, length, true, false, IfOk, IfErr, OnOk, Some};
 ghost use Rattle.catalog_stream.specs.Stream.{blobs};
-ghost use Rattle.olm_base.specs.Outcome.{Ends, Gives};
-ghost use Rattle.olm_io.specs.Outside.{HasCause, IsTold, Puts};
+ghost use Rattle.olm_base.specs.Outcome.{Gives};
+ghost use Rattle.olm_io.specs.Outside.{HasCause};
+ghost use Rattle.fbc_read.specs.Bodies.{input_limit};
 ghost use Rattle.olm_cli.specs.declared.causes.Cause.{Cause};
-ghost use Rattle.olm_cli.specs.Causes.{is_decided, is_free, is_free_end, is_of_reading, is_of_text, status_of};
+ghost use Rattle.olm_cli.specs.Causes.{is_after_reading, is_free, is_free_end, is_of_text};
 ghost use Rattle.olm_cli.specs.Choice.{names_of, printed, spaced, take_line};
-ghost use Rattle.olm_cli.specs.Reading.{input_limit};
 ghost use Rattle.olm_cli.specs.Resolving as spec;
 ghost use Rattle.olm_cli.specs.Runs.{Comes};
 
 use crate::causes::Cause;
 use crate::choice::{Decision, decide};
 use crate::first_form::{Form, Listed, form_of};
-use crate::reading::{catalog_of, read_input};
+use crate::printing::print;
+use crate::reading::valid_of;
+use crate::words::ChannelWords;
 use catalog_stream::read_blobs;
-use fbc_types::Catalog;
-use olm_base::{Memory, Text};
-use olm_io::{Outage, Sink, Source};
+use olm_base::Memory;
+use olm_io::Sink;
 use std::alloc::Global;
 
 /// The form of a text of so many blobs. Only those of none and of three are read again.
@@ -40,28 +40,14 @@ fn form_of_text(alloc: Global, text: &[u8], count: u32) -> Result<Form, Cause>
     }
 }
 
-/// Reads the text as a catalog, and then as one of the first form.
-fn read_text(alloc: Global, text: &[u8]) -> Result<Form, Cause>
+/// Reads the text as a catalog that breaks no rule, and then as one of the first form.
+fn read_form(alloc: Global, text: &[u8]) -> Result<Form, Cause>
     requires within { length text.now ≤ input_limit }
-    ensures answer { Gives is_free (spec.form_after text.now) result }
+    ensures answer { Gives is_free (spec.read_form text.now) result }
     ensures kind { IfErr result (λ cause. is_of_text cause ≡ true) }
 {
-    let mut catalog = Catalog::new(alloc);
-    match catalog_of(alloc, text, &mut catalog) {
-        Ok(count) => form_of_text(alloc, text, count),
-        Err(cause) => Err(cause),
-    }
-}
-
-/// Reads the input to its end, as a catalog of the first form.
-fn read_form<S: Source>(alloc: Global, input: &mut S) -> Result<Form, Cause>
-    ensures answer { (text : List ℕ) × IsTold (S.left input.old) text × Gives is_free (spec.read_form text) result }
-    ensures cause { HasCause (S.faults input.old) (S.faults input.new) (IsErrOf result Cause.InputFailed) }
-    ensures kind { IfErr result (λ cause. is_of_reading cause ≡ true) }
-    ensures end { OnOk result (IsAtEnd (S.left input.new)) }
-{
-    match read_input(alloc, input) {
-        Ok(text) => read_text(alloc, text.as_slice()),
+    match valid_of(alloc, text) {
+        Ok(valid) => form_of_text(alloc, text, valid.count),
         Err(cause) => Err(cause),
     }
 }
@@ -111,7 +97,9 @@ fn printed(alloc: Global, decision: &Decision) -> Result<Vec<u8>, Memory>
 
 /// How a run with this decision ends.
 fn ended(decision: &Decision) -> Option<Cause>
-    ensures { result ≡ spec.ended decision.now }
+    ensures end { result ≡ spec.ended decision.now }
+    ensures bound { is_free_end result ≡ false }
+    ensures kind { is_after_reading result ≡ true }
 {
     match decision {
         Decision::Chosen(_) => None,
@@ -119,60 +107,40 @@ fn ended(decision: &Decision) -> Option<Cause>
     }
 }
 
-/// Prints a decision. A refusal ends the run with its own status.
-fn print<O: Sink>(alloc: Global, decision: &Decision, out: &mut O) -> Option<Cause>
-    ensures end { Ends is_free_end (spec.ended decision.now) result }
-    ensures output { Puts (not (is_free_end result)) (O.held out.old) (O.held out.new) (printed decision.now) }
-    ensures cause { HasCause (O.faults out.old) (O.faults out.new) (result ≡ Some Cause.OutputFailed) }
-    ensures input { result ≢ Some Cause.InputFailed }
-    ensures words { result ≢ Some Cause.BadWords }
-{
-    let Ok(bytes) = printed(alloc, decision) else {
-        return Some(Cause::NoMemory);
-    };
-    match out.put(bytes.as_slice()) {
-        Ok(()) => ended(decision),
-        Err(Outage::Failed) => Some(Cause::OutputFailed),
-        Err(Outage::Memory) => Some(Cause::NoMemory),
-    }
-}
-
-/// Decides over a form, and prints the decision.
+/// Decides over a form, and prints the decision. A refusal ends the run with its own status.
 fn decide_form<O: Sink>(
     alloc: Global,
     form: Form,
-    package_name: &Text,
-    channel: &Text,
+    names: ChannelWords<'_>,
     out: &mut O,
 ) -> Option<Cause>
-    ensures run { Comes (spec.Decides package_name.now channel.now form) result (O.held out.old) (O.held out.new) }
+    ensures run { Comes (spec.Decides names.entry.package_name.now names.entry.channel.now form) result (O.held out.old) (O.held out.new) }
     ensures cause { HasCause (O.faults out.old) (O.faults out.new) (result ≡ Some Cause.OutputFailed) }
-    ensures input { result ≢ Some Cause.InputFailed }
-    ensures words { result ≢ Some Cause.BadWords }
+    ensures kind { is_after_reading result ≡ true }
 {
-    match decide(alloc, form, package_name, channel) {
-        Ok(decision) => print(alloc, &decision, out),
-        Err(Memory) => Some(Cause::NoMemory),
-    }
+    let Ok(decision) = decide(alloc, form, names.package_name, names.channel) else {
+        return Some(Cause::NoMemory);
+    };
+    let Ok(output) = printed(alloc, &decision) else {
+        return Some(Cause::NoMemory);
+    };
+    print(output.as_slice(), ended(&decision), out)
 }
 
-/// Chooses a bundle for a package and a channel over the input, and prints the choice.
-pub fn resolve<S: Source, O: Sink>(
+/// Chooses a bundle for a package and a channel over a text's catalog, and prints the choice.
+pub fn resolve_text<O: Sink>(
     alloc: Global,
-    package_name: &Text,
-    channel: &Text,
-    input: &mut S,
+    text: &[u8],
+    names: ChannelWords<'_>,
     out: &mut O,
 ) -> Option<Cause>
-    ensures run { (text : List ℕ) × IsTold (S.left input.old) text
-        × Comes (spec.ResolveRuns package_name.now channel.now text) result (O.held out.old) (O.held out.new) }
-    ensures words { result ≢ Some Cause.BadWords }
-    ensures input { HasCause (S.faults input.old) (S.faults input.new) (result ≡ Some Cause.InputFailed) }
-    ensures output { HasCause (O.faults out.old) (O.faults out.new) (result ≡ Some Cause.OutputFailed) }
-    ensures end { is_decided (status_of result) ≡ true → IsAtEnd (S.left input.new) }
+    requires within { length text.now ≤ input_limit }
+    ensures run { Comes (spec.ResolveRuns names.entry.package_name.now names.entry.channel.now text.now) result (O.held out.old) (O.held out.new) }
+    ensures cause { HasCause (O.faults out.old) (O.faults out.new) (result ≡ Some Cause.OutputFailed) }
+    ensures kind { is_after_reading result ≡ true }
 {
-    match read_form(alloc, input) {
-        Ok(form) => decide_form(alloc, form, package_name, channel, out),
+    match read_form(alloc, text) {
+        Ok(form) => decide_form(alloc, form, names, out),
         Err(cause) => Some(cause),
     }
 }

@@ -1,8 +1,10 @@
-//! The program `olmctl`: the top call over the words of the command line and the standard streams.
+//! The program `olmctl`: the top call over the words of the command line, the current directory and the standard
+//! streams.
 #![tactic(auto)]
 
 use olm_base::Text;
 use olm_cli::{Cause, exit_of, olmctl, status, tell_cause};
+use olm_folder::StdFolder;
 use olm_io::{StdSink, StdSource};
 use std::process::ExitCode;
 use std::{env, io};
@@ -26,11 +28,19 @@ fn unread(fault: &io::Error) -> Cause {
 }
 
 fn main(rt: HostRuntime) -> ExitCode {
+    let mut folder = StdFolder::new(&rt);
     let mut input = StdSource::new(rt.stdin());
     let mut out = StdSink::new(rt.stdout());
     let mut err = StdSink::new(rt.stderr());
     let exit = match read_words(&rt) {
-        Ok(words) => olmctl(rt.alloc(), words.as_slice(), &mut input, &mut out, &mut err),
+        Ok(words) => olmctl(
+            rt.alloc(),
+            words.as_slice(),
+            &mut folder,
+            &mut input,
+            &mut out,
+            &mut err,
+        ),
         Err(fault) => {
             let told = tell_cause(rt.alloc(), unread(&fault), &mut err);
             exit_of(&told)

@@ -5,3 +5,4 @@ pub mod Reaching
 pub mod Variables
 pub mod Building
 pub mod Shown
+pub mod Laws

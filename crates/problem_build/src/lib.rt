@@ -6,6 +6,7 @@ mod building;
 mod channels;
 mod entries;
 mod choices;
+mod laws;
 mod names;
 mod tips;
 

@@ -220,11 +220,10 @@ module _ (choices : Choices) where
 asks_fit : (catalogs : List Visible) (tips : List Tip) (subscriptions : List (List ℕ × SubSpec))
     → AllByRecursion (λ asked. IsThere (length (map tip_offer tips)) asked.installed) (map (λ s. asked catalogs tips s.1) subscriptions)
 asks_fit catalogs tips [] = tt
-asks_fit catalogs tips (s ∷ rest) =
-    (
-      subst (λ n. IsThere n (installed_place tips s.1.«package»)) (sym (length-map tips tip_offer)) (position_is_there (is_tip_of s.1.«package») tips),
-      asks_fit catalogs tips rest,
-    )
+asks_fit catalogs tips (s ∷ rest) = (
+  subst (λ n. IsThere n (installed_place tips s.1.«package»)) (sym (length-map tips tip_offer)) (position_is_there (is_tip_of s.1.«package») tips),
+  asks_fit catalogs tips rest,
+)
 
 pub choices_fit : (basis : Basis) (catalogs : List Visible) (reached : List Bool)
     → AllByRecursion (Fits (choices basis catalogs reached)) (asks basis catalogs)
@@ -269,8 +268,7 @@ named basis catalogs reached =
 
 pub problems_are_closed : ProblemsAreClosed
 problems_are_closed basis catalogs built built_names h =
-    let all = choices basis catalogs h.reached in
-    (
+    let all = choices basis catalogs h.reached in (
       subst IsClosed (sym h.is_problem) (closed all (choices_fit basis catalogs h.reached)),
       ap length h.are_names ∙ (named basis catalogs h.reached ∙ sym (ap length h.is_problem)),
     )

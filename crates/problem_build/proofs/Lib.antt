@@ -2,3 +2,4 @@ pub mod Lists
 pub mod Sorting
 pub mod Closed
 pub mod Picked
+pub mod Once

@@ -183,11 +183,7 @@ fn asked_by(
 }
 
 /// What each subscription asks for, by the subscriptions' names.
-pub(crate) fn asks(
-    alloc: Global,
-    basis: &Basis,
-    catalogs: &[Visible],
-) -> Result<Vec<Asked>, Memory>
+pub(crate) fn asks(alloc: Global, basis: &Basis, catalogs: &[Visible]) -> Result<Vec<Asked>, Memory>
     ensures { IfOk result (λ found. found.items ≡ building.asks basis.now catalogs.now) }
 {
     let mut found = Vec::new(alloc);

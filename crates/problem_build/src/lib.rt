@@ -4,11 +4,12 @@
 mod asking;
 mod building;
 mod channels;
-mod entries;
 mod choices;
+mod entries;
 mod laws;
 mod names;
 mod tips;
 
 pub use building::{BuildFault, Built};
+pub use laws::{one_of_a_kind, one_of_a_package, picks_provide, problems_are_closed};
 pub use names::VarName;

@@ -1,6 +1,6 @@
 -- Lists from a place on.
-use Rattle.std.proofs.Common.{◌≡◌, ◌+◌, ◌<◌, ℕ, suc, Bool, true, false, List, [], ◌∷◌, ◌++◌, length, get_or, map, take, drop, refl, sym, ap, ◌∙◌, subst, drop-cons, add-one, Option, Some, slice_get}
-use Rattle.std.specs.List.{find, flat_map}
+use Rattle.std.proofs.Common.{◌≡◌, ◌+◌, ◌-◌, ◌<◌, arith, append_assoc, ℕ, suc, Bool, true, false, List, [], ◌∷◌, ◌++◌, length, get_or, map, take, drop, refl, sym, ap, ◌∙◌, subst, drop-cons, add-one, Option, Some, slice_get}
+use Rattle.std.specs.List.{find, flat_map, range_with_len}
 use Rattle.std.proofs.lemmas.List.{get_or-map, length-map, take_more}
 use Rattle.std.proofs.lemmas.Option.{slice_get_read}
 
@@ -33,3 +33,17 @@ module _ {A T : Type 0} (see : A → T) (xs : List A) (i : ℕ) (x : A) (below :
 pub flat_map_seen : {A B C : Type 0} (see : A → B) (f : B → List C) (xs : List A) → flat_map (λ x. f (see x)) xs ≡ flat_map f (map see xs)
 flat_map_seen see f [] = refl
 flat_map_seen see f (x ∷ xs) = ap (λ l. f (see x) ++ l) (flat_map_seen see f xs)
+
+-- five lists, each put behind the ones before
+pub five : {T : Type 0} (r0 r1 r2 r3 r4 r5 a b c d e : List T) → r0 ≡ [] → r1 ≡ r0 ++ a → r2 ≡ r1 ++ b → r3 ≡ r2 ++ c → r4 ≡ r3 ++ d → r5 ≡ r4 ++ e
+    → r5 ≡ a ++ (b ++ (c ++ (d ++ e)))
+five r0 r1 r2 r3 r4 r5 a b c d e h0 h1 h2 h3 h4 h5 =
+    let one : r1 ≡ a = h1 ∙ ap (λ r. r ++ a) h0 in
+    let all : r5 ≡ a ++ b ++ c ++ d ++ e =
+    h5 ∙ ap (λ r. r ++ e) (h4 ∙ ap (λ r. r ++ d) (h3 ∙ ap (λ r. r ++ c) (h2 ∙ ap (λ r. r ++ b) one))) in
+    all ∙ simp append_assoc
+
+pub range_step : (p n : ℕ) → p < n → range_with_len p (n - p) ≡ p ∷ range_with_len (p + 1) (n - (p + 1))
+range_step p n h =
+    let one : n - p ≡ suc (n - (p + 1)) = omega arith in
+    ap (range_with_len p) one

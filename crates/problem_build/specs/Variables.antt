@@ -64,12 +64,21 @@ of_subscription choices asked = Mandatory ∷ Dependency (candidates choices ask
 abbrev pub is_beside : Entry → Entry → Bool
 is_beside entry other = same other.catalog_namespace entry.catalog_namespace && same other.catalog entry.catalog
 
+-- The other entry passes, and stands in the catalog of this one, or in another catalog.
+abbrev pub passes_beside : Entry → Requirement → Entry → Bool
+passes_beside entry requirement other = is_beside entry other && passes requirement other.offer
+
+abbrev pub passes_elsewhere : Entry → Requirement → Entry → Bool
+passes_elsewhere entry requirement other = not (is_beside entry other) && passes requirement other.offer
+
 -- The list of a requirement: the tips that pass, then the entries of the entry's own catalog that pass, then the others that pass.
 abbrev pub passing : Choices → Entry → Requirement → List ℕ
 passing choices entry requirement =
     tips_where choices (passes requirement)
-    ++ (entries_where choices (λ other. is_beside entry other && passes requirement other.offer)
-    ++ entries_where choices (λ other. not (is_beside entry other) && passes requirement other.offer))
+    ++ (entries_where choices (passes_beside entry requirement) ++ entries_where choices (passes_elsewhere entry requirement))
+
+abbrev pub need : Choices → Entry → Requirement → Constraint
+need choices entry requirement = Dependency (passing choices entry requirement)
 
 -- An upgrade goes against the installed one that it upgrades from.
 abbrev pub conflicts_with : Choices → Entry → Asked → List Constraint
@@ -77,7 +86,7 @@ conflicts_with choices entry asked = if is_upgrade asked entry then map Conflict
 
 abbrev pub of_entry : Choices → Entry → List Constraint
 of_entry choices entry =
-    map (λ requirement. Dependency (passing choices entry requirement)) entry.requirements
+    map (need choices entry) entry.requirements
     ++ flat_map (conflicts_with choices entry) choices.asks
 
 -- The tip at this place is the installed one of some subscription.
@@ -139,7 +148,11 @@ pub record Fits (choices : Choices) : Type 0 where
   pub few : first_tip choices + length choices.tips ≤ VAR_LIMIT
   pub installed : All (λ asked. IfSome asked.installed (λ place. place < length choices.tips)) choices.asks
 
--- What taking an entry means: it replaces the first tip of its package, if there is one.
+-- The name of the first tip of a package, if there is one.
+abbrev pub replaced : List Tip → List ℕ → Option (List ℕ)
+replaced tips name = option_map (λ tip. tip.name) (installed tips name)
+
+-- What taking an entry means: it replaces the first tip of its package.
 abbrev pub taken : List Tip → Entry → Taken
 taken tips entry =
     record {
@@ -149,7 +162,7 @@ taken tips entry =
       channel = entry.channel;
       name = entry.name;
       version = entry.version;
-      replaces = option_map (λ tip. tip.name) (installed tips entry.«package»);
+      replaces = replaced tips entry.«package»;
     }
 
 -- What the variables stand for.

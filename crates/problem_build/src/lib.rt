@@ -3,11 +3,15 @@
 
 mod asking;
 mod building;
+mod candidates;
 mod channels;
 mod choices;
 mod entries;
 mod laws;
 mod names;
+mod reaching;
+mod rows;
+mod shared;
 mod tips;
 
 pub use building::{BuildFault, Built};

@@ -2,3 +2,5 @@ pub mod Bodies
 pub mod Visible
 pub mod Tips
 pub mod Basis
+pub mod Sources
+pub mod Laws

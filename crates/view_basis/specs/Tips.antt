@@ -1,6 +1,6 @@
 -- The tips of a namespace: its CSVs that no other CSV there replaces.
-use Rattle.std.specs.Prelude.{ℕ, Bool, true, false, ◌==◌, ◌&&◌, not, if◌then◌else◌, List, [], ◌∷◌, map, Option, Some, None}
-use Rattle.std.specs.List.{filter_map, find, list_any, position}
+use Rattle.std.specs.Prelude.{ℕ, Bool, true, false, ◌==◌, ◌&&◌, not, if◌then◌else◌, List, map, Option, None}
+use Rattle.std.specs.List.{after_first, filter_map, find, list_any, position}
 use Rattle.std.specs.Option.{option_map, option_map_or, unwrap_or}
 use Rattle.semver.specs.Parse.{Parts}
 use Rattle.version_ranges.specs.Versions.{release}
@@ -11,7 +11,6 @@ use Rattle.cluster_objects.specs.Kinds.{csv_at}
 use Rattle.cluster_objects.specs.declared.keys.Key.{Key}
 use Rattle.cluster_objects.specs.declared.resolutions.Tip.{Tip}
 use Rattle.cluster_objects.specs.declared.statuses.Crd.{Crd}
-use Rattle.cluster_objects.specs.declared.statuses.CsvPhase.{CsvPhase}
 use Rattle.cluster_objects.specs.declared.statuses.CsvPhase.TheVariants as phase
 use Rattle.cluster_objects.specs.declared.statuses.CsvStatus.{CsvStatus}
 use Rattle.cluster_history.specs.Views.{View}
@@ -35,14 +34,9 @@ names_another namespace name entry =
 abbrev pub is_replaced : View → List ℕ → Bool
 is_replaced view name = list_any (names_another view.namespace name) view.slots
 
--- What stands behind a text's first dot, and nothing where it has none.
-abbrev pub behind_dot : List ℕ → List ℕ
-behind_dot [] = []
-behind_dot (byte ∷ bytes) = if byte == 46 then bytes else behind_dot bytes
-
--- The kind that a custom resource definition is of.
+-- The kind that a custom resource definition is of. Its group stands behind the first dot of the name; without a dot it is empty.
 abbrev pub kind_of : Crd → Gvk
-kind_of crd = record { group = behind_dot crd.name; version = crd.version; kind = crd.kind }
+kind_of crd = record { group = after_first (λ byte. byte == 46) crd.name; version = crd.version; kind = crd.kind }
 
 -- A CSV may be upgraded where its phase is Succeeded.
 abbrev pub has_succeeded : CsvStatus → Bool

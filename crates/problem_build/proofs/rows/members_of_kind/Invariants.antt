@@ -1,0 +1,11 @@
+use Rattle.std.proofs.Common.{◌≡◌, ◌++◌, ◌+◌, map, drop}
+use Rattle.problem_build.specs.Numbers.{numbers_where}
+use Rattle.problem_build.specs.Variables as spec
+use Rattle.std.specs.Borrow.{Bor}
+use Rattle.op_properties.specs.declared.offer.Offer.{Offer}
+use Rattle.op_properties.specs.Offers.{shown}
+use Rattle.problem_build.proofs.rows.members_of_kind.Given as goal
+
+abbrev pub invariant-loop-i : goal.invariant-loop-i
+invariant-loop-i l = 
+    l.found ++ numbers_where (l.first + l.i) (spec.has_kind l.kind) (map (λ (o : Bor Offer). shown o.now) (drop l.i l.offers)) ≡ numbers_where l.first (spec.has_kind l.kind) (map (λ (o : Bor Offer). shown o.now) l.offers)

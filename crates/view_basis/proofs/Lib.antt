@@ -1,0 +1,7 @@
+pub mod Ascii
+pub mod EachOnce
+pub mod Found
+pub mod Ordered
+pub mod Slots
+pub mod Sources
+pub mod Valid

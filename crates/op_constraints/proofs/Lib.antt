@@ -10,3 +10,5 @@ pub mod Taking
 pub mod Prefixes
 pub mod AgendaLaws
 pub mod FirstWalk
+pub mod Extending
+pub mod Trying

@@ -5,3 +5,5 @@ pub mod Tests
 pub mod WalkInvariant
 pub mod Agenda
 pub mod Laws
+pub mod Tries
+pub mod Trails

@@ -6,6 +6,7 @@
 //! best one is the first whose set meets the problem once no list is left.
 #![tactic(auto)]
 
+mod first;
 mod laws;
 mod problems;
 mod sets;
@@ -13,6 +14,7 @@ mod sets;
 mod tests;
 mod walks;
 
+pub use first::{Tried, first_walk};
 pub use laws::{
     agenda_gives_same_walks, best_is_one, chosen_are_picked, empty_dependency_refuses,
     first_is_best, first_walk_is_one, full_meets, members_stand_once, no_walk_extends_full,

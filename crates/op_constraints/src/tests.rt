@@ -270,3 +270,84 @@ fn first_walk_and_restart(rt: HostRuntime) -> Result<(), Fail> {
     assert!(rt; walk.set().has(VarId(0)) && !walk.set().has(VarId(1)));
     Ok(())
 }
+
+/// What is wanted of a problem's first walk.
+#[derive(Clone, Copy)]
+enum Want<'a> {
+    Found(&'a [u32]),
+    Nothing,
+    Spent,
+}
+
+fn is_wanted(tried: &Tried, want: &Want<'_>) -> bool {
+    match (tried, want) {
+        (Tried::Found { walk }, Want::Found(numbers)) => walk.as_slice() == *numbers,
+        (Tried::Nothing, Want::Nothing) => true,
+        (Tried::Spent, Want::Spent) => true,
+        _ => false,
+    }
+}
+
+/// The first number of tries that goes otherwise than it is said to, if one does.
+fn tried_otherwise(
+    alloc: Global,
+    rows: &[Row<'_>],
+    cases: &[(u32, Want<'_>)],
+) -> Result<Option<u32>, Memory> {
+    let problem = problem_of(alloc, rows)?;
+    for (tries, want) in cases {
+        if !problem.closed() || !is_wanted(&first_walk(alloc, &problem, *tries)?, want) {
+            return Ok(Some(*tries));
+        }
+    }
+    Ok(None)
+}
+
+/// As many tries as there are partial walks up to the best one are enough, and one less isn't.
+#[test]
+fn best_walk_within_its_tries(rt: HostRuntime) -> Result<(), Fail> {
+    let empty = [Row::Asked(&[])];
+    let lacking = [
+        Row::Asked(&[1, 2]),
+        Row::Needs(&[]),
+        Row::Free,
+        Row::One(&[1, 2]),
+    ];
+    let clashing = [
+        Row::Asked(&[2]),
+        Row::Asked(&[3]),
+        Row::Needs(&[5]),
+        Row::Needs(&[4]),
+        Row::Free,
+        Row::Free,
+        Row::One(&[4, 5]),
+    ];
+    let shared = [
+        Row::Asked(&[2, 3]),
+        Row::Asked(&[4, 5]),
+        Row::Free,
+        Row::Free,
+        Row::Free,
+        Row::Free,
+        Row::One(&[2, 4]),
+    ];
+    let twice = [Row::Asked(&[1, 1, 2]), Row::Out, Row::Free];
+    let none = [(0u32, Want::Found(&[]))];
+    assert_eq!(rt; tried_otherwise(rt.alloc(), &[], &none)?, None);
+    assert_eq!(rt; tried_otherwise(rt.alloc(), &[Row::Free], &none)?, None);
+    let cases = [(0u32, Want::Nothing)];
+    assert_eq!(rt; tried_otherwise(rt.alloc(), &empty, &cases)?, None);
+    let cases = [
+        (2u32, Want::Found(&[1])),
+        (1, Want::Spent),
+        (0, Want::Spent),
+    ];
+    assert_eq!(rt; tried_otherwise(rt.alloc(), &lacking, &cases)?, None);
+    let cases = [(4u32, Want::Nothing), (3, Want::Spent)];
+    assert_eq!(rt; tried_otherwise(rt.alloc(), &clashing, &cases)?, None);
+    let cases = [(3u32, Want::Found(&[0, 1])), (2, Want::Spent)];
+    assert_eq!(rt; tried_otherwise(rt.alloc(), &shared, &cases)?, None);
+    let cases = [(3u32, Want::Found(&[2])), (2, Want::Spent)];
+    assert_eq!(rt; tried_otherwise(rt.alloc(), &twice, &cases)?, None);
+    Ok(())
+}

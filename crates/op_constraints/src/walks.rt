@@ -12,7 +12,7 @@ use std::alloc::Global;
 use std::marker::Model;
 
 /// The first Dependency list from a place on that holds nothing of the set, and the place after it.
-fn next_list<'p>(
+pub(crate) fn next_list<'p>(
     constraints: &'p [Constraint],
     place: usize,
     set: &VarSet,
@@ -51,7 +51,7 @@ fn has_mandatory(constraints: &[Constraint]) -> bool
 }
 
 /// The variables with a Mandatory constraint, with room for every variable.
-fn mandatory_variables(alloc: Global, problem: &Problem) -> Result<Vec<VarId>, Memory>
+pub(crate) fn mandatory_variables(alloc: Global, problem: &Problem) -> Result<Vec<VarId>, Memory>
     ensures variables { IfOk result (λ chosen. chosen.items ≡ mandatory problem.now) }
     ensures room { IfOk result (λ chosen. length problem.now ≤ vec_capacity chosen) }
 {
@@ -67,7 +67,7 @@ fn mandatory_variables(alloc: Global, problem: &Problem) -> Result<Vec<VarId>, M
 }
 
 /// The set of these variables.
-fn set_of(alloc: Global, problem: &Problem, vars: &[VarId]) -> Result<VarSet, Memory>
+pub(crate) fn set_of(alloc: Global, problem: &Problem, vars: &[VarId]) -> Result<VarSet, Memory>
     requires { AllByRecursion (λ v. v < length problem.now) vars.now }
     ensures size { IfOk result (λ set. length set ≡ length problem.now) }
     ensures same { IfOk result (λ set. at set ≡ is_among vars.now) }

@@ -1,3 +1,5 @@
 mod Nested
 mod Sole
+mod Steps
+mod Twice
 mod Whole

@@ -1,5 +1,5 @@
 -- Channels with one head.
-use Rattle.std.proofs.Common.{◌≡◌, ◌==◌, ◌&&◌, ◌||◌, suc, Bool, true, false, not, cond, List, [], ◌∷◌, ◌++◌, length, filter, append-nil, Option, Some, None, refl, sym, ap, ◌∙◌, subst, arith, if◌then◌else◌}
+use Rattle.std.proofs.Common.{◌≡◌, ℕ, ◌==◌, ◌&&◌, ◌||◌, suc, Bool, true, false, not, cond, List, [], ◌∷◌, ◌++◌, length, filter, append-nil, Option, Some, None, refl, sym, ap, ◌∙◌, arith, if◌then◌else◌}
 use Rattle.std.specs.List.{find, flat_map, list_any}
 use Rattle.std.specs.Option.{option_map_or}
 use Rattle.std.proofs.lemmas.Bool.{ne_eqb}
@@ -86,8 +86,8 @@ none_by blob (head ∷ other ∷ others) h one = refl
 nothing_more : (old more : List CheckFault) → more ≡ [] → old ≡ old ++ more
 nothing_more old more h = sym (ap (λ w. old ++ w) h ∙ append-nil old)
 
-pub none_without_head : (blob : Channel) (old : List CheckFault) → (length (heads blob.entries) == 1) ≡ false → old ≡ old ++ stranded blob
-none_without_head blob old one = nothing_more old (stranded blob) (none_by blob (heads blob.entries) refl one)
+pub none_without_head : (blob : Channel) (old : List CheckFault) (count : ℕ) → count ≡ length (heads blob.entries) → (count == 1) ≡ false → old ≡ old ++ stranded blob
+none_without_head blob old count counted one = nothing_more old (stranded blob) (none_by blob (heads blob.entries) refl (ap (λ n. n == 1) (sym counted) ∙ one))
 
 circle_none_by : (blob : Channel) (found : List Entry) → found ≡ main_chain blob.entries → has_name_twice found ≡ true → (hs : List Entry) → heads blob.entries ≡ hs → stranded_of blob hs ≡ []
 circle_none_by blob found is twice [] h = refl
@@ -100,10 +100,14 @@ pub none_in_circle : (blob : Channel) (found : List Entry) (old : List CheckFaul
 none_in_circle blob found old is twice = nothing_more old (stranded blob) (circle_none_by blob found is twice (heads blob.entries) refl)
 
 -- what is noted of a chain's channel
-pub circles_are : (blob : Channel) (found : List Entry) (old new : List CheckFault) (b : Bool) → found ≡ main_chain blob.entries → b ≡ (has_name_twice found && (length (heads blob.entries) == 1))
-    → new ≡ old ++ where_broken b (of_channel 11 blob) → new ≡ old ++ circle blob
-circles_are blob found old new b is same noted = noted ∙ ap (λ w. old ++ w) (ap (λ c. where_broken c (of_channel 11 blob)) same ∙ sym (circle_is blob found is))
+pub circles_are : (blob : Channel) (found : List Entry) (old new : List CheckFault) (count : ℕ) (b : Bool) → count ≡ length (heads blob.entries) → found ≡ main_chain blob.entries
+    → b ≡ (has_name_twice found && (count == 1)) → new ≡ old ++ where_broken b (of_channel 11 blob) → new ≡ old ++ circle blob
+circles_are blob found old new count b counted is same noted =
+    noted
+    ∙ ap (λ w. old ++ w)
+    (ap (λ c. where_broken c (of_channel 11 blob)) (same ∙ ap (λ n. has_name_twice found && (n == 1)) counted) ∙ sym (circle_is blob found is))
 
-pub stranded_are : (blob : Channel) (found : List Entry) (old new : List CheckFault) → found ≡ main_chain blob.entries → has_name_twice found ≡ false → (length (heads blob.entries) == 1) ≡ true
-    → new ≡ old ++ unreached blob found → new ≡ old ++ stranded blob
-stranded_are blob found old new is once one noted = noted ∙ ap (λ w. old ++ w) (sym (stranded_is blob found is once one))
+pub stranded_are : (blob : Channel) (found : List Entry) (old new : List CheckFault) (count : ℕ) → count ≡ length (heads blob.entries) → found ≡ main_chain blob.entries
+    → has_name_twice found ≡ false → (count == 1) ≡ true → new ≡ old ++ unreached blob found → new ≡ old ++ stranded blob
+stranded_are blob found old new count counted is once one noted =
+    noted ∙ ap (λ w. old ++ w) (sym (stranded_is blob found is once (ap (λ n. n == 1) (sym counted) ∙ one)))

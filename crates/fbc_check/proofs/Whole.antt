@@ -1,5 +1,5 @@
 -- Groups of faults, one behind the other.
-use Rattle.std.proofs.Common.{◌≡◌, List, [], ◌++◌, refl, ap, sym, ◌∙◌, append_assoc}
+use Rattle.std.proofs.Common.{◌≡◌, List, [], ◌++◌, ap, ◌∙◌, append_assoc}
 use Rattle.std.specs.List.{flat_map}
 use Rattle.fbc_types.specs.Rules.{broken, by_earlier, by_entries, repeated_package, repeated_channel, repeated_bundle, repeated_entry, no_channel, no_default, no_bundle, no_entry, no_head, many_heads, circle, stranded, not_one_version, bad_entry, bad_bundle, lost_channel, lost_bundle}
 use Rattle.fbc_types.specs.declared.catalog.Catalog.{Catalog}

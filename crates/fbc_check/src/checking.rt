@@ -8,10 +8,8 @@ ghost use Rattle.fbc_check.specs.Checking.{is_free, checked};
 use crate::bundles::{
     bad_bundles, bundles_without_entry, bundles_without_version, lost_bundles, repeated_bundles,
 };
-use crate::channels::{
-    channels_with_heads, channels_without_head, circles, lost_channels, repeated_channels,
-    stranded_entries,
-};
+use crate::chains::chain_faults;
+use crate::channels::{lost_channels, repeated_channels};
 use crate::entries::{bad_entries, entries_without_bundle, repeated_entries};
 use crate::packages::{packages_without_channel, packages_without_default, repeated_packages};
 use fbc_types::{Catalog, CheckFault, CheckedCatalog};
@@ -31,21 +29,29 @@ pub enum CheckRefusal {
 }
 
 // Names that stand twice.
-fn note_repeated(faults: &mut Vec<CheckFault>, catalog: &Catalog) -> Result<(), Memory>
+fn note_repeated(
+    alloc: Global,
+    faults: &mut Vec<CheckFault>,
+    catalog: &Catalog,
+) -> Result<(), Memory>
     ensures { OnOk result (faults.new.items ≡ faults.old.items
         ++ (rules.by_earlier rules.repeated_package [] catalog.now.packages
         ++ (rules.by_earlier rules.repeated_channel [] catalog.now.channels
         ++ (rules.by_earlier rules.repeated_bundle [] catalog.now.bundles
         ++ flat_map (λ channel. rules.by_earlier (rules.repeated_entry channel) [] channel.entries) catalog.now.channels)))) }
 {
-    repeated_packages(faults, catalog.packages.as_slice())?;
-    repeated_channels(faults, catalog.channels.as_slice())?;
-    repeated_bundles(faults, catalog.bundles.as_slice())?;
-    repeated_entries(faults, catalog.channels.as_slice())
+    repeated_packages(alloc, faults, catalog.packages.as_slice())?;
+    repeated_channels(alloc, faults, catalog.channels.as_slice())?;
+    repeated_bundles(alloc, faults, catalog.bundles.as_slice())?;
+    repeated_entries(alloc, faults, catalog.channels.as_slice())
 }
 
 // Packages, entries and bundles without what they need.
-fn note_missing(faults: &mut Vec<CheckFault>, catalog: &Catalog) -> Result<(), Memory>
+fn note_missing(
+    alloc: Global,
+    faults: &mut Vec<CheckFault>,
+    catalog: &Catalog,
+) -> Result<(), Memory>
     ensures { OnOk result (faults.new.items ≡ faults.old.items
         ++ (flat_map (rules.no_channel catalog.now.channels) catalog.now.packages
         ++ (flat_map (rules.no_default catalog.now.channels) catalog.now.packages
@@ -53,21 +59,25 @@ fn note_missing(faults: &mut Vec<CheckFault>, catalog: &Catalog) -> Result<(), M
         ++ flat_map (rules.no_entry catalog.now.channels) catalog.now.bundles)))) }
 {
     packages_without_channel(
+        alloc,
         faults,
         catalog.channels.as_slice(),
         catalog.packages.as_slice(),
     )?;
     packages_without_default(
+        alloc,
         faults,
         catalog.channels.as_slice(),
         catalog.packages.as_slice(),
     )?;
     entries_without_bundle(
+        alloc,
         faults,
         catalog.bundles.as_slice(),
         catalog.channels.as_slice(),
     )?;
     bundles_without_entry(
+        alloc,
         faults,
         catalog.channels.as_slice(),
         catalog.bundles.as_slice(),
@@ -82,10 +92,12 @@ fn note_chains(alloc: Global, faults: &mut Vec<CheckFault>, catalog: &Catalog) -
         ++ (flat_map rules.circle catalog.now.channels
         ++ flat_map rules.stranded catalog.now.channels)))) }
 {
-    channels_without_head(faults, catalog.channels.as_slice())?;
-    channels_with_heads(faults, catalog.channels.as_slice())?;
-    circles(alloc, faults, catalog.channels.as_slice())?;
-    stranded_entries(alloc, faults, catalog.channels.as_slice())
+    let mut found = chain_faults(alloc, catalog.channels.as_slice())?;
+    faults.append(&mut found.headless)?;
+    faults.append(&mut found.many_headed)?;
+    faults.append(&mut found.circles)?;
+    faults.append(&mut found.stranded)?;
+    Ok(())
 }
 
 // Texts that are no versions or ranges.
@@ -100,17 +112,19 @@ fn note_texts(alloc: Global, faults: &mut Vec<CheckFault>, catalog: &Catalog) ->
 }
 
 // Channels and bundles of no package.
-fn note_lost(faults: &mut Vec<CheckFault>, catalog: &Catalog) -> Result<(), Memory>
+fn note_lost(alloc: Global, faults: &mut Vec<CheckFault>, catalog: &Catalog) -> Result<(), Memory>
     ensures { OnOk result (faults.new.items ≡ faults.old.items
         ++ (flat_map (rules.lost_channel catalog.now.packages) catalog.now.channels
         ++ flat_map (rules.lost_bundle catalog.now.packages) catalog.now.bundles)) }
 {
     lost_channels(
+        alloc,
         faults,
         catalog.packages.as_slice(),
         catalog.channels.as_slice(),
     )?;
     lost_bundles(
+        alloc,
         faults,
         catalog.packages.as_slice(),
         catalog.bundles.as_slice(),
@@ -122,11 +136,11 @@ fn faults_of(alloc: Global, catalog: &Catalog) -> Result<Vec<CheckFault>, Memory
     ensures { IfOk result (λ faults. faults.items ≡ rules.broken catalog.now) }
 {
     let mut faults = Vec::new(alloc);
-    note_repeated(&mut faults, catalog)?;
-    note_missing(&mut faults, catalog)?;
+    note_repeated(alloc, &mut faults, catalog)?;
+    note_missing(alloc, &mut faults, catalog)?;
     note_chains(alloc, &mut faults, catalog)?;
     note_texts(alloc, &mut faults, catalog)?;
-    note_lost(&mut faults, catalog)?;
+    note_lost(alloc, &mut faults, catalog)?;
     Ok(faults)
 }
 

@@ -4,73 +4,67 @@ ghost use Rattle.std.specs.List.{flat_map};
 ghost use Rattle.std.specs.Option.{option_map_or};
 ghost use Rattle.fbc_types.specs.Rules as rules;
 ghost use Rattle.fbc_types.specs.Texts.{is_range};
+ghost use Rattle.name_tables.specs.Sets.{has_owned};
 
-use crate::bundles::{has_bundle, has_entry};
 use crate::notes::note_entry;
+use crate::tables::bundle_names;
 use crate::texts::is_range;
 use fbc_types::{Bundle, Channel, CheckFault, Entry};
+use name_tables::{NameSet, OwnedNames};
 use olm_base::Memory;
 use std::alloc::Global;
 
-fn note_repeated(faults: &mut Vec<CheckFault>, blob: &Channel) -> Result<(), Memory>
+fn note_repeated(alloc: Global, faults: &mut Vec<CheckFault>, blob: &Channel) -> Result<(), Memory>
     ensures { OnOk result (faults.new.items ≡ faults.old.items ++ rules.by_earlier (rules.repeated_entry blob.now) [] blob.now.entries) }
 {
-    let entries = blob.entries.as_slice();
-    'entries: for (index, entry) in entries.iter().enumerate() {
-        let is_repeated = has_entry(&entries[..index], &entry.name);
-        note_entry(faults, is_repeated, 4, blob, entry)?;
+    let mut earlier = NameSet::new(alloc);
+    'entries: for entry in blob.entries.as_slice() {
+        let is_new = earlier.add(&entry.name)?;
+        note_entry(faults, !is_new, 4, blob, entry)?;
     }
     Ok(())
 }
 
 /// Entries whose name an earlier entry of their channel has.
 pub(crate) fn repeated_entries(
+    alloc: Global,
     faults: &mut Vec<CheckFault>,
     channels: &[Channel],
 ) -> Result<(), Memory>
     ensures { OnOk result (faults.new.items ≡ faults.old.items ++ flat_map (λ channel. rules.by_earlier (rules.repeated_entry channel) [] channel.entries) channels.now) }
 {
     'channels: for blob in channels {
-        note_repeated(faults, blob)?;
+        note_repeated(alloc, faults, blob)?;
     }
     Ok(())
 }
 
-fn note_no_bundle(
+fn note_without_bundle<'a>(
     faults: &mut Vec<CheckFault>,
-    bundles: &[Bundle],
-    blob: &Channel,
-    entry: &Entry,
+    names: &OwnedNames<'a>,
+    blob: &'a Channel,
 ) -> Result<(), Memory>
-    ensures { OnOk result (faults.new.items ≡ faults.old.items ++ rules.no_bundle bundles.now blob.now entry.now) }
-{
-    let is_without = !has_bundle(bundles, &blob.package, &entry.name);
-    note_entry(faults, is_without, 7, blob, entry)
-}
-
-fn note_without_bundle(
-    faults: &mut Vec<CheckFault>,
-    bundles: &[Bundle],
-    blob: &Channel,
-) -> Result<(), Memory>
-    ensures { OnOk result (faults.new.items ≡ faults.old.items ++ flat_map (rules.no_bundle bundles.now blob.now) blob.now.entries) }
+    ensures { OnOk result (faults.new.items ≡ faults.old.items ++ flat_map (λ entry. rules.where_broken (not (has_owned names.now blob.now.«package» entry.name)) (rules.of_entry 7 blob.now entry)) blob.now.entries) }
 {
     'entries: for entry in blob.entries.as_slice() {
-        note_no_bundle(faults, bundles, blob, entry)?;
+        let is_without = !names.has(&blob.package, &entry.name);
+        note_entry(faults, is_without, 7, blob, entry)?;
     }
     Ok(())
 }
 
 /// Entries without a bundle of their name in the package.
-pub(crate) fn entries_without_bundle(
+pub(crate) fn entries_without_bundle<'a>(
+    alloc: Global,
     faults: &mut Vec<CheckFault>,
-    bundles: &[Bundle],
-    channels: &[Channel],
+    bundles: &'a [Bundle],
+    channels: &'a [Channel],
 ) -> Result<(), Memory>
     ensures { OnOk result (faults.new.items ≡ faults.old.items ++ rules.by_entries (rules.no_bundle bundles.now) channels.now) }
 {
+    let names = bundle_names(alloc, bundles)?;
     'channels: for blob in channels {
-        note_without_bundle(faults, bundles, blob)?;
+        note_without_bundle(faults, &names, blob)?;
     }
     Ok(())
 }

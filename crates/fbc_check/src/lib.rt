@@ -5,11 +5,14 @@
 #![tactic(auto)]
 
 mod bundles;
+mod chains;
 mod channels;
 mod checking;
 mod entries;
+mod links;
 mod notes;
 mod packages;
+mod tables;
 #[cfg(test)]
 mod tests;
 mod texts;

@@ -3,3 +3,4 @@ pub mod Nesting
 pub mod Forms
 pub mod Joining
 pub mod Along
+pub mod Listing

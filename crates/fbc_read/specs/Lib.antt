@@ -3,3 +3,4 @@ pub mod Properties
 pub mod Blobs
 pub mod Catalogs
 pub mod Lengths
+pub mod Bodies

@@ -1,15 +1,8 @@
 //! The program `olmctl`: the top call over the words of the command line and the standard streams.
 #![tactic(auto)]
 
-mod call;
-mod causes;
-mod choice;
-mod fields;
-mod first_form;
-
-use call::{olmctl, tell};
-use causes::{Cause, exit_of, line_of, status};
 use olm_base::Text;
+use olm_cli::{Cause, exit_of, olmctl, status, tell_cause};
 use olm_io::{StdSink, StdSource};
 use std::process::ExitCode;
 use std::{env, io};
@@ -39,13 +32,9 @@ fn main(rt: HostRuntime) -> ExitCode {
     let exit = match read_words(&rt) {
         Ok(words) => olmctl(rt.alloc(), words.as_slice(), &mut input, &mut out, &mut err),
         Err(fault) => {
-            let cause = unread(&fault);
-            tell(&mut err, line_of(cause));
-            exit_of(cause)
+            let told = tell_cause(rt.alloc(), unread(&fault), &mut err);
+            exit_of(&told)
         }
     };
     ExitCode::from(status(exit))
 }
-
-#[cfg(test)]
-mod tests;

@@ -1,5 +1,5 @@
 -- What is kept as the partial walks are tried in their order.
-use Rattle.std.proofs.Common.{◌≡◌, ℕ, zero, suc, ◌+◌, ◌<◌, ◌≤◌, ◌⊎◌, Bool, true, List, [], ◌∷◌, ◌++◌, length, set, get_or, refl, sym, ap, ◌∙◌, subst, arith, inl, inr, Option, Some, None, slice_get, append_assoc}
+use Rattle.std.proofs.Common.{◌≡◌, ℕ, zero, suc, ◌+◌, ◌<◌, ◌≤◌, Bool, true, List, [], ◌∷◌, ◌++◌, length, set, get_or, refl, sym, ap, ◌∙◌, subst, arith, inl, inr, Option, Some, None, slice_get, append_assoc}
 use Rattle.std.specs.Option.{option_and_then}
 use Rattle.std.specs.List.{AllByRecursion}
 use Rattle.std.proofs.lemmas.Bool.{cases_lt}
@@ -14,10 +14,10 @@ use Rattle.op_constraints.specs.WalkInvariant.{Stands}
 use Rattle.op_constraints.specs.Trails.{NoneBefore, AreEarlier, HasEarlier, IsTrying, IsAt}
 use Rattle.op_constraints.proofs.Full.{list_passed, agenda_place}
 use Rattle.op_constraints.proofs.Keeping.{all-push}
-use Rattle.op_constraints.proofs.Order.{before_onward, before_one_way, before_cases}
+use Rattle.op_constraints.proofs.Order.{before_onward, before_cases}
 use Rattle.op_constraints.proofs.Taking.{stands-begun, stands-take, picked-within}
 use Rattle.op_constraints.proofs.Prefixes.{walk-append}
-use Rattle.op_constraints.proofs.Steps.{walk-push, walk-pop}
+use Rattle.op_constraints.proofs.Steps.{walk-push}
 use Rattle.op_constraints.proofs.Extending.{before-extended, before-number, before-more, before-next, before-first, rising-push, all-before, all-front, rising-front, split-last}
 
 -- What is earlier

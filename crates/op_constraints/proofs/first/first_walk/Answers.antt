@@ -1,7 +1,6 @@
-use Rattle.std.proofs.Common.{◌≡◌, ℕ, List, ◌∙◌, sym, ap, subst}
+use Rattle.std.proofs.Common.{ℕ, List, ◌∙◌, sym, subst}
 use Rattle.std.proofs.lemmas.Bool.{false≢true}
 use Rattle.op_constraints.specs.declared.Constraint.{Constraint}
-use Rattle.op_constraints.specs.Walks.{IsBest, IsWide, Succeeds}
 use Rattle.op_constraints.specs.Tries.{IsTried}
 use Rattle.op_constraints.specs.declared.first.Tried.TheVariants.{Found}
 use Rattle.op_constraints.proofs.Trying.{trying-first, found}

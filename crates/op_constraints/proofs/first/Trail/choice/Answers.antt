@@ -1,7 +1,6 @@
-use Rattle.std.proofs.Common.{◌≡◌, ◌<◌, ℕ, Bool, List, [], ◌∷◌, ◌++◌, suc, drop, length, get_or, sym, ap, ◌∙◌, arith}
-use Rattle.op_constraints.specs.declared.Constraint.{Constraint}
+use Rattle.std.proofs.Common.{◌≡◌, ◌<◌, ℕ, List, [], ◌∷◌, ◌++◌, suc, drop, length, get_or, ap, ◌∙◌, arith}
 use Rattle.op_constraints.specs.Meets.{at, constraints_of}
-use Rattle.op_constraints.specs.Walks.{is_among, dependencies, agenda, passed}
+use Rattle.op_constraints.specs.Walks.{dependencies, agenda}
 use Rattle.op_constraints.proofs.Looking.{looks-next, waiting-at}
 use Rattle.op_constraints.proofs.Trying.{waiting-few, said-of}
 use Rattle.op_constraints.proofs.first.Trail.choice.Goals as goal

@@ -1,4 +1,4 @@
-use Rattle.std.proofs.Common.{◌≡◌, ℕ, List, ◌∙◌, sym, subst, None}
+use Rattle.std.proofs.Common.{◌≡◌, List, ◌∙◌, sym, subst, None}
 use Rattle.op_constraints.specs.declared.Constraint.{Constraint}
 use Rattle.op_constraints.specs.Walks.{waiting, member}
 use Rattle.op_constraints.specs.Tries.{IsTried}

@@ -1,4 +1,4 @@
-use Rattle.std.proofs.Common.{◌+◌, arith}
+use Rattle.std.proofs.Common.{arith}
 use Rattle.op_constraints.proofs.Trying.{spent, offered-within, at-one}
 use Rattle.op_constraints.proofs.first.Trail.try_one.Goals as goal
 

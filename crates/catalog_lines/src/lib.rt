@@ -1,0 +1,15 @@
+//! What is printed of a catalog: the counts of a valid one, the rules that another breaks, and the upgrades in a
+//! channel. What each line holds stands in `specs/Lines.antt`.
+#![tactic(auto)]
+
+mod counts;
+mod faults;
+mod graph;
+mod nodes;
+
+pub use counts::counts_line;
+pub use faults::fault_lines;
+pub use graph::graph_lines;
+
+#[cfg(test)]
+mod tests;

@@ -1,0 +1,9 @@
+use Rattle.std.proofs.Common.{◌≡◌, ◌&&◌, ℕ, List, take}
+use Rattle.std.specs.List.{list_any}
+use Rattle.fbc_types.specs.Rules as rules
+use Rattle.fbc_types.specs.Texts.{same}
+use Rattle.name_tables.specs.Sets.{has_owned}
+use Rattle.fbc_check.proofs.tables.bundle_names.Given as goal
+
+abbrev pub invariant-bundles : goal.invariant-bundles
+invariant-bundles l = (owner name : List ℕ) → has_owned l.names owner name ≡ list_any (λ bundle. rules.is_bundle_of owner bundle && same bundle.name name) (take l.blob-index l.bundles)

@@ -1,0 +1,5 @@
+mod Came
+mod Counted
+mod Forms
+mod Decided
+mod Resolved

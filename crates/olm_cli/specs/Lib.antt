@@ -1,0 +1,10 @@
+pub mod Causes
+pub mod Choice
+pub mod Commands
+pub mod FieldReading
+pub mod FirstForm
+pub mod Lines
+pub mod Reading
+pub mod Resolving
+pub mod Runs
+pub mod Words

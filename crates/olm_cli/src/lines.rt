@@ -1,0 +1,161 @@
+// The line on `err`.
+ghost use Rattle.std.specs.Prelude.{◌≡◌, ◌≤◌, ◌⊎◌, ◌++◌, IfOk, OnOk, IsOk};
+ghost use Rattle.std.specs.Fmt.{decimal};
+ghost use Rattle.olm_io.specs.Outside.{AppendsFront};
+ghost use Rattle.olm_cli.specs.declared.causes.Cause.{Cause};
+ghost use Rattle.olm_cli.specs.Lines as spec;
+
+use crate::causes::Cause;
+use catalog_stream::StreamFault;
+use olm_base::{FieldKind, Memory, Text};
+use olm_io::{Outage, Sink};
+use std::alloc::Global;
+
+/// Hands a line to the sink, whatever it answers.
+fn tell<E: Sink>(err: &mut E, line: &[u8])
+    ensures line { AppendsFront (E.held err.old) (E.held err.new) line.now }
+    ensures count { E.faults err.old ≤ E.faults err.new }
+{
+    match err.put(line) {
+        Ok(()) => {}
+        Err(Outage::Failed) => {}
+        Err(Outage::Memory) => {}
+    }
+}
+
+fn kind_text(kind: FieldKind) -> &'static [u8]
+    ensures { result.now ≡ spec.kind_text kind }
+{
+    match kind {
+        FieldKind::Missing => b"missing",
+        FieldKind::WrongType => b"wrong type",
+        FieldKind::Empty => b"empty",
+        FieldKind::BadName => b"bad name",
+        FieldKind::OneOf => b"one of",
+        FieldKind::Base64 => b"base64",
+        FieldKind::Number => b"number",
+        FieldKind::Memory => b"out of memory",
+    }
+}
+
+fn push_number(bytes: &mut Vec<u8>, alloc: Global, number: u64) -> Result<(), Memory>
+    ensures { OnOk result (bytes.new.items ≡ bytes.old.items ++ decimal number) }
+{
+    let digits = number.to_string(alloc)?;
+    bytes.extend_from_slice(digits.as_bytes())?;
+    Ok(())
+}
+
+fn push_placed(bytes: &mut Vec<u8>, alloc: Global, at: u64, what: &[u8]) -> Result<(), Memory>
+    ensures { OnOk result (bytes.new.items ≡ bytes.old.items ++ spec.placed at what.now) }
+{
+    bytes.extend_from_slice(b"at ")?;
+    push_number(bytes, alloc, at)?;
+    bytes.extend_from_slice(b": ")?;
+    bytes.extend_from_slice(what)?;
+    Ok(())
+}
+
+fn push_stream(bytes: &mut Vec<u8>, alloc: Global, fault: StreamFault) -> Result<(), Memory>
+    ensures { OnOk result (bytes.new.items ≡ bytes.old.items ++ spec.stream_text fault) }
+{
+    match fault {
+        StreamFault::NotObject { at } => push_placed(bytes, alloc, at, b"not an object"),
+        StreamFault::TooDeep { at } => push_placed(bytes, alloc, at, b"too deep"),
+        StreamFault::Truncated { at } => push_placed(bytes, alloc, at, b"truncated"),
+        StreamFault::Syntax { at } => push_placed(bytes, alloc, at, b"syntax"),
+        StreamFault::Memory => Err(Memory),
+    }
+}
+
+fn push_field(
+    bytes: &mut Vec<u8>,
+    alloc: Global,
+    blob: u32,
+    path: &Text,
+    kind: FieldKind,
+) -> Result<(), Memory>
+    ensures { OnOk result (bytes.new.items ≡ bytes.old.items ++ spec.field_text blob path.now kind) }
+{
+    bytes.extend_from_slice(b"blob ")?;
+    push_number(bytes, alloc, u64::from(blob))?;
+    bytes.extend_from_slice(b": ")?;
+    bytes.extend_from_slice(path.as_slice())?;
+    bytes.extend_from_slice(b" ")?;
+    bytes.extend_from_slice(kind_text(kind))?;
+    Ok(())
+}
+
+fn stream_line(alloc: Global, fault: StreamFault) -> Result<Vec<u8>, Memory>
+    ensures { IfOk result (λ line. line.items ≡ spec.line_of (Cause.Stream fault)) }
+{
+    let mut bytes = Vec::from_slice(alloc, b"olmctl: ")?;
+    push_stream(&mut bytes, alloc, fault)?;
+    bytes.push(b'\n')?;
+    Ok(bytes)
+}
+
+fn field_line(alloc: Global, blob: u32, path: &Text, kind: FieldKind) -> Result<Vec<u8>, Memory>
+    ensures { IfOk result (λ line. line.items ≡ spec.line_of (Cause.Field blob path.now kind)) }
+{
+    let mut bytes = Vec::from_slice(alloc, b"olmctl: ")?;
+    push_field(&mut bytes, alloc, blob, path, kind)?;
+    bytes.push(b'\n')?;
+    Ok(bytes)
+}
+
+/// The line of a cause: it stands in the program, or it is made of the cause's parts.
+#[derive(Drop)]
+enum Line {
+    Fixed(&'static [u8]),
+    Made(Vec<u8>),
+}
+
+impl Line {
+    fn as_bytes(&self) -> &[u8]
+        ensures { result.now ≡ spec.line_bytes self.now }
+    {
+        match self {
+            Line::Fixed(line) => line,
+            Line::Made(line) => line.as_slice(),
+        }
+    }
+}
+
+fn line_of(alloc: Global, cause: &Cause) -> Result<Line, Memory>
+    ensures line { IfOk result (λ line. spec.line_bytes line ≡ spec.line_of cause.now) }
+    ensures words { cause.now ≡ Cause.BadWords → IsOk result }
+{
+    match cause {
+        Cause::NoChoice => Ok(Line::Fixed(b"olmctl: no choice\n")),
+        Cause::BadWords => Ok(Line::Fixed(b"olmctl: words\n")),
+        Cause::Stream(fault) => Ok(Line::Made(stream_line(alloc, *fault)?)),
+        Cause::Field { blob, path, kind } => {
+            Ok(Line::Made(field_line(alloc, *blob, path, *kind)?))
+        }
+        Cause::NotFirstForm => Ok(Line::Fixed(b"olmctl: first form\n")),
+        Cause::InputFailed => Ok(Line::Fixed(b"olmctl: input failed\n")),
+        Cause::OutputFailed => Ok(Line::Fixed(b"olmctl: output failed\n")),
+        Cause::NoMemory => Ok(Line::Fixed(b"olmctl: out of memory\n")),
+        Cause::TooLong => Ok(Line::Fixed(b"olmctl: limit 67108864\n")),
+    }
+}
+
+/// Tells the line of the cause for which a run ends. Where there is no memory to make it, the run ends for that.
+pub fn tell_cause<E: Sink>(alloc: Global, cause: Cause, err: &mut E) -> Cause
+    ensures line { AppendsFront (E.held err.old) (E.held err.new) (spec.line_of result) }
+    ensures cause { (result ≡ cause) ⊎ (result ≡ Cause.NoMemory) }
+    ensures words { cause ≡ Cause.BadWords → result ≡ Cause.BadWords }
+    ensures count { E.faults err.old ≤ E.faults err.new }
+{
+    match line_of(alloc, &cause) {
+        Ok(line) => {
+            tell(err, line.as_bytes());
+            cause
+        }
+        Err(Memory) => {
+            tell(err, b"olmctl: out of memory\n");
+            Cause::NoMemory
+        }
+    }
+}

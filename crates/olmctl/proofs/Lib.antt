@@ -1,4 +1,0 @@
-mod Counted
-mod Forms
-mod Decided
-mod Answered

@@ -1,5 +1,0 @@
-pub mod Answers
-pub mod Choice
-pub mod FieldReading
-pub mod FirstForm
-pub mod Words

@@ -1,6 +1,8 @@
 pub mod Lists
 pub mod Sorting
 pub mod Marking
-pub mod Closed
-pub mod Picked
-pub mod Once
+pub mod Counting
+pub mod Keeping
+pub mod Answering
+pub mod Facts
+pub mod Sharing

@@ -30,13 +30,6 @@ choices basis catalogs reached =
       tips = map tip_offer basis.tips;
     }
 
--- The problem of a basis and its visible catalogs, and what its variables stand for. There is one of each.
-pub record IsProblemOf (basis : Basis) (catalogs : List Visible) (built : List (List Constraint)) (built_names : List VarName) : Type 0 where
-  pub reached : List Bool
-  pub are_reached : AreReached (asks basis catalogs) (entries catalogs) reached
-  pub is_problem : built ≡ problem (choices basis catalogs reached)
-  pub are_names : built_names ≡ names basis.subscriptions basis.tips (choices basis catalogs reached)
-
 -- The upgrades from the installed one of the subscription of this name.
 abbrev pub upgrades_of : Basis → List Visible → List ℕ → List (List ℕ)
 upgrades_of basis catalogs name =
@@ -53,10 +46,20 @@ too_many built =
     if nat_lt VAR_LIMIT (length built) then Some (length built)
     else if nat_lt VAR_LIMIT (most_constraints built) then Some (most_constraints built) else None
 
--- The problem is answered where it isn't too large, and how large it is where it is.
+-- The problem over what is chosen from is answered where it isn't too large, and how large it is where it is.
+abbrev pub IsAnswer : Basis → Choices → Result Built BuildFault → Type 0
+IsAnswer basis from (Ok built) =
+    (built.problem ≡ problem from) × (built.names ≡ names basis.subscriptions basis.tips from)
+    × (too_many (problem from) ≡ None) × (built.basis ≡ basis)
+IsAnswer basis from (Err (TooManyVariables count)) = too_many (problem from) ≡ Some count
+IsAnswer basis from (Err Memory) = Unit {0}
+
+-- The answer over a basis and its visible catalogs, with the entries that are reached.
 abbrev pub IsBuilt : Basis → List Visible → Result Built BuildFault → Type 0
-IsBuilt basis catalogs (Ok built) =
-    IsProblemOf basis catalogs built.problem built.names × (too_many built.problem ≡ None) × (built.basis ≡ basis)
-IsBuilt basis catalogs (Err (TooManyVariables count)) =
-    (built : List (List Constraint)) × (built_names : List VarName) × IsProblemOf basis catalogs built built_names × (too_many built ≡ Some count)
 IsBuilt basis catalogs (Err Memory) = Unit {0}
+IsBuilt basis catalogs (Err (TooManyVariables count)) =
+    (reached : List Bool) × AreReached (asks basis catalogs) (entries catalogs) reached
+    × IsAnswer basis (choices basis catalogs reached) (Err (TooManyVariables count))
+IsBuilt basis catalogs (Ok built) =
+    (reached : List Bool) × AreReached (asks basis catalogs) (entries catalogs) reached
+    × IsAnswer basis (choices basis catalogs reached) (Ok built)

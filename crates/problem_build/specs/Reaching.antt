@@ -19,7 +19,7 @@ needs entry other = list_any (λ requirement. passes requirement other.offer) en
 pub record IsClosed (asks : List Asked) (entries : List Entry) (set : ℕ → Bool) : Type 0 where
   pub candidates : (i : ℕ) (entry : Entry) → slice_get entries i ≡ Some entry → is_asked_for asks entry ≡ true → set i ≡ true
   pub needed : (i j : ℕ) (entry other : Entry) → slice_get entries i ≡ Some entry → slice_get entries j ≡ Some other
-      → set i ≡ true → needs entry other ≡ true → set j ≡ true
+    → set i ≡ true → needs entry other ≡ true → set j ≡ true
 
 -- The entry at a place is reached where it stands in each such set, so in the least one.
 abbrev pub IsReached : List Asked → List Entry → ℕ → Type 0

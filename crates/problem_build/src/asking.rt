@@ -9,13 +9,12 @@ ghost use Rattle.problem_build.specs.Building as building;
 ghost use Rattle.problem_build.specs.Shown.{shown_entry};
 
 use crate::entries::Listed;
-use crate::tips::tip_version;
 use cluster_objects::{Basis, SubSpec, Tip};
 use fbc_types::{CheckedCatalog, Package};
 use olm_base::{Many, Memory, Name};
 use std::alloc::Global;
 use upgrade_graph::upgrades;
-use view_basis::Visible;
+use view_basis::{Visible, tip_version};
 
 /// A subscription as its catalog and the tips make it.
 #[derive(Debug, Drop)]
@@ -183,7 +182,11 @@ fn asked_by(
 }
 
 /// What each subscription asks for, by the subscriptions' names.
-pub(crate) fn asks(alloc: Global, basis: &Basis, catalogs: &[Visible]) -> Result<Vec<Asked>, Memory>
+pub(crate) fn asks(
+    alloc: Global,
+    basis: &Basis,
+    catalogs: &[Visible],
+) -> Result<Vec<Asked>, Memory>
     ensures { IfOk result (λ found. found.items ≡ building.asks basis.now catalogs.now) }
 {
     let mut found = Vec::new(alloc);

@@ -1,23 +1,25 @@
-//! What holds of the problem of every namespace.
+//! What is so of every problem of a namespace: each contract is a law over the definitions that the other contracts
+//! cite.
 
-ghost use Rattle.problem_build.specs.Laws.{ProblemsAreClosed, PicksProvide, OneOfAPackage, OneOfAKind};
+ghost use Rattle.problem_build.specs.Laws.{AllAreThere, KindsAreOnce, PackagesAreOnce, PicksAreEntriesOrTips, ThereIsOne};
 
-/// Each variable that a constraint names is there, and each variable has a name.
-pub fn problems_are_closed()
-    ensures { ProblemsAreClosed }
+/// A basis and its catalogs have one problem, and one list of names.
+pub fn problem_is_one()
+    ensures { ThereIsOne }
 {}
 
-/// What a walk of the problem picks are entries and installed ones.
-pub fn picks_provide()
-    ensures { PicksProvide }
+/// Every variable that a constraint names is there.
+pub fn named_variables_are_there()
+    ensures { AllAreThere }
 {}
 
-/// A set that meets the problem has one version of a package at most, among entries and installed ones.
-pub fn one_of_a_package()
-    ensures { OneOfAPackage }
+/// What a walk picks are entries and tips.
+pub fn picks_are_entries_or_tips()
+    ensures { PicksAreEntriesOrTips }
 {}
 
-/// It has one provider of a kind at most, among entries and installed ones.
-pub fn one_of_a_kind()
-    ensures { OneOfAKind }
+/// A set that meets the problem has one entry or tip of a package at most, and one provider of a kind at most.
+pub fn packages_and_kinds_are_once()
+    ensures packages { PackagesAreOnce }
+    ensures kinds { KindsAreOnce }
 {}

@@ -111,7 +111,7 @@ fn one_of(alloc: Global, members: Many<VarId>) -> Result<Many<Constraint>, Memor
 }
 
 /// The rows of a problem that are made so far.
-type Rows = Vec<Many<Constraint>>;
+pub(crate) type Rows = Vec<Many<Constraint>>;
 
 fn add_subscriptions(alloc: Global, pool: &Pool, rows: &mut Rows) -> Result<(), Memory>
     requires { spec.Fits (shown_choices pool.now) }

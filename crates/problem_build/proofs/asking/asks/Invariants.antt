@@ -4,6 +4,6 @@ use Rattle.problem_build.specs.Asking as spec
 use Rattle.problem_build.proofs.asking.asks.Given as goal
 
 abbrev pub invariant-loop-subscription : goal.invariant-loop-subscription
-invariant-loop-subscription l =
+invariant-loop-subscription l = 
     l.found.items
     ≡ map (λ (subscription : List ℕ × SubSpec). spec.asked l.catalogs l.basis.tips subscription.1) (take l.subscription-index l.basis.subscriptions)

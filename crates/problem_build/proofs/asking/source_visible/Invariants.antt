@@ -4,5 +4,5 @@ use Rattle.problem_build.specs.Asking as spec
 use Rattle.problem_build.proofs.asking.source_visible.Given as goal
 
 abbrev pub invariant-loop-visible : goal.invariant-loop-visible
-invariant-loop-visible l =
+invariant-loop-visible l = 
     find (spec.is_source l.spec) (drop l.visible-index l.catalogs) ≡ find (spec.is_source l.spec) l.catalogs

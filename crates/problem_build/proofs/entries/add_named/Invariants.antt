@@ -5,6 +5,6 @@ use Rattle.problem_build.specs.Shown.{shown_entry}
 use Rattle.problem_build.proofs.entries.add_named.Given as goal
 
 abbrev pub invariant-loop-name : goal.invariant-loop-name
-invariant-loop-name l =
+invariant-loop-name l = 
     map shown_entry l.found.items ++ filter_map (spec.entry_named l.seen l.catalog l.channel) (drop l.name-index l.names)
     ≡ map shown_entry l.initial.found.items ++ filter_map (spec.entry_named l.seen l.catalog l.channel) l.names

@@ -1,0 +1,5 @@
+mod Closing
+mod Walking
+mod Printing
+mod Once
+mod Again

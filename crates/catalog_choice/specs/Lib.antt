@@ -1,0 +1,4 @@
+pub mod Asking
+pub mod Picked
+pub mod Deciding
+pub mod Laws

@@ -8,6 +8,8 @@ mod asking;
 mod deciding;
 mod laws;
 mod picks;
+#[cfg(test)]
+mod tests;
 
 pub use asking::{Question, ask};
 pub use deciding::{Answer, Decided, resolve_text, verify_text};

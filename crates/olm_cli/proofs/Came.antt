@@ -10,7 +10,7 @@ use Rattle.olm_cli.specs.Causes.{is_free, is_free_end, HasRisen}
 use Rattle.olm_cli.specs.Commands.{CatalogRuns, TaskRuns}
 use Rattle.olm_cli.specs.Places.{Holds}
 use Rattle.olm_cli.specs.Words.{Place, Task}
-use Rattle.olm_cli.specs.Runs.{Ran, stopped, After, Comes}
+use Rattle.olm_cli.specs.Runs.{Ran, stopped, After, AfterHeld, Comes}
 
 -- the run that stops for a cause
 pub stopped_comes : (Permits : Ran → Type 0) (cause : Cause) (known : Option (List ℕ)) → Permits (stopped cause) → Comes Permits (Some cause) known known
@@ -69,3 +69,7 @@ told_risen Folder Input Output cause told (inr none) folder input output = subst
 -- a run over what a place holds is a run of the command
 pub placed_comes : (place : Place) (task : Task) (files : Option (List (List ℕ × List ℕ))) (left : Option (List ℕ)) (found : Result (List ℕ) Cause) (end : Option Cause) (old new : Option (List ℕ)) → Holds place files left found → Comes (After found (TaskRuns task)) end old new → Comes (CatalogRuns place task files left) end old new
 placed_comes place task files left found end old new holds came = (came.0, (found, holds, came.1), came.2, came.3)
+
+-- a run behind a step that something holds of
+pub held_comes : {T : Type 0} (Held : Result T Cause → Type 0) (Permits : T → Ran → Type 0) (step : Result T Cause) (end : Option Cause) (old new : Option (List ℕ)) → Held step → Comes (After step Permits) end old new → Comes (AfterHeld Held Permits) end old new
+held_comes Held Permits step end old new held came = (came.0, (step, held, came.1), came.2, came.3)

@@ -1,7 +1,6 @@
 mod Came
-mod Counted
-mod Forms
-mod Decided
+mod Digits
 mod Listings
 mod Resolved
 mod Tasks
+mod Verified

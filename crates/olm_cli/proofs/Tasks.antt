@@ -9,13 +9,13 @@ use Rattle.catalog_lines.specs.Lines.{counts_line, fault_lines}
 use Rattle.olm_cli.specs.Checking.{checked_run, run_by_faults}
 use Rattle.olm_cli.specs.Commands.{TaskRuns}
 use Rattle.olm_cli.specs.Graph.{graph_of}
-use Rattle.olm_cli.specs.Reading.{catalog_of, unless_broken}
-use Rattle.olm_cli.specs.Resolving.{read_form, Decides}
+use Rattle.olm_cli.specs.Reading.{catalog_of, unless_broken, valid_of}
+use Rattle.olm_cli.specs.Resolving.{Answers}
 use Rattle.olm_cli.specs.Runs.{Ran}
 use Rattle.olm_cli.specs.Words.{Task, Check, Graph, Resolve}
 use Rattle.olm_cli.specs.declared.causes.Cause.TheVariants.{BrokenRules}
 use Rattle.olm_cli.proofs.Came.{a_run}
-use Rattle.olm_cli.proofs.Resolved.{a_decided_run}
+use Rattle.olm_cli.proofs.Resolved.{an_answered_run}
 
 pub a_checked_run : (read : Read) → (ran : Ran) × (ran ≡ checked_run read.catalog)
 a_checked_run read = (checked_run read.catalog, refl)
@@ -23,7 +23,7 @@ a_checked_run read = (checked_run read.catalog, refl)
 pub a_task_run : (task : Task) (text : List ℕ) → (ran : Ran) × TaskRuns task text ran
 a_task_run Check text = a_run (catalog_of text) (λ read ran. ran ≡ checked_run read.catalog) a_checked_run
 a_task_run (Graph package_name channel) text = a_run (graph_of package_name channel text) (λ lines ran. ran ≡ record { output = lines; end = None }) (λ lines. (record { output = lines; end = None }, refl))
-a_task_run (Resolve package_name channel) text = a_run (read_form text) (Decides package_name channel) (a_decided_run package_name channel)
+a_task_run (Resolve budget package_name channel) text = a_run (valid_of text) (λ read. Answers budget package_name channel text) (λ read. an_answered_run budget package_name channel text)
 
 -- a catalog that was kept breaks no rule
 pub kept_run : (catalog valid : Catalog) (faults : List CheckFault) → by_faults catalog faults ≡ Ok valid → record { output = counts_line valid; end = None } ≡ run_by_faults catalog faults

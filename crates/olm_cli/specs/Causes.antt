@@ -3,7 +3,7 @@ use Rattle.std.specs.Prelude.{ℕ, Bool, true, false, Option, Some, None, ⊤}
 use Rattle.olm_cli.specs.declared.causes.Exit.{Exit}
 use Rattle.olm_cli.specs.declared.causes.Exit.TheVariants as exit
 use Rattle.olm_cli.specs.declared.causes.Cause.{Cause}
-use Rattle.olm_cli.specs.declared.causes.Cause.TheVariants.{NoChoice, BrokenRules, NoChannel, BadWords, Stream, SplitFile, FileNotRead, Field, NotFirstForm, FolderFailed, InputFailed, OutputFailed, NoMemory, TooLong}
+use Rattle.olm_cli.specs.declared.causes.Cause.TheVariants.{NoChoice, NotAccepted, BrokenRules, NoChannel, BadWords, Stream, SplitFile, FileNotRead, Field, FolderFailed, InputFailed, OutputFailed, NoMemory, BudgetSpent, TooLong, TooManyVariables}
 
 -- may come at any time: a fault of the outside, and want of memory
 abbrev pub is_free : Cause → Bool
@@ -21,6 +21,7 @@ is_free_end (Some cause) = is_free cause
 -- the status of a run that ended so
 abbrev pub exit_of : Cause → Exit
 exit_of NoChoice = exit.Refused
+exit_of NotAccepted = exit.Refused
 exit_of BrokenRules = exit.Refused
 exit_of NoChannel = exit.Refused
 exit_of BadWords = exit.Words
@@ -28,12 +29,13 @@ exit_of (Stream fault) = exit.Input
 exit_of (SplitFile path fault) = exit.Input
 exit_of (FileNotRead path) = exit.Input
 exit_of (Field blob path kind) = exit.Input
-exit_of NotFirstForm = exit.Input
 exit_of FolderFailed = exit.Outside
 exit_of InputFailed = exit.Outside
 exit_of OutputFailed = exit.Outside
 exit_of NoMemory = exit.Memory
+exit_of BudgetSpent = exit.Unfinished
 exit_of TooLong = exit.Limit
+exit_of (TooManyVariables count) = exit.Limit
 
 abbrev pub status_of : Option Cause → Exit
 status_of None = exit.Done
@@ -47,12 +49,14 @@ number_of exit.Words = 2
 number_of exit.Input = 3
 number_of exit.Outside = 4
 number_of exit.Memory = 5
+number_of exit.Unfinished = 6
 number_of exit.Limit = 8
 
 -- the run has ended with an answer
 abbrev pub is_answered : Exit → Bool
 is_answered exit.Done = true
 is_answered exit.Refused = true
+is_answered exit.Unfinished = true
 is_answered _ = false
 
 -- may come once the text has been read
@@ -68,8 +72,11 @@ abbrev pub is_of_reading : Cause → Bool
 is_of_reading BadWords = false
 is_of_reading OutputFailed = false
 is_of_reading NoChoice = false
+is_of_reading NotAccepted = false
 is_of_reading BrokenRules = false
 is_of_reading NoChannel = false
+is_of_reading BudgetSpent = false
+is_of_reading (TooManyVariables count) = false
 is_of_reading _ = true
 
 -- a run may end so once its text has been read

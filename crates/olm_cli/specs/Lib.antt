@@ -1,13 +1,11 @@
 pub mod Causes
 pub mod Checking
-pub mod Choice
 pub mod Commands
-pub mod FieldReading
-pub mod FirstForm
 pub mod Graph
 pub mod Lines
 pub mod Places
 pub mod Reading
 pub mod Resolving
 pub mod Runs
+pub mod Verifying
 pub mod Words

@@ -8,7 +8,7 @@ use Rattle.olm_base.specs.declared.fields.FieldKind.TheVariants as kind
 use Rattle.olm_cli.specs.declared.causes.Cause.{Cause}
 use Rattle.olm_cli.specs.declared.lines.Line.{Line}
 use Rattle.olm_cli.specs.declared.lines.Line.TheVariants.{Fixed, Made}
-use Rattle.olm_cli.specs.declared.causes.Cause.TheVariants.{NoChoice, BrokenRules, NoChannel, BadWords, Stream, SplitFile, FileNotRead, Field, NotFirstForm, FolderFailed, InputFailed, OutputFailed, NoMemory, TooLong}
+use Rattle.olm_cli.specs.declared.causes.Cause.TheVariants.{NoChoice, NotAccepted, BrokenRules, NoChannel, BadWords, Stream, SplitFile, FileNotRead, Field, FolderFailed, InputFailed, OutputFailed, NoMemory, BudgetSpent, TooLong, TooManyVariables}
 
 -- `at N: WHAT`
 abbrev pub placed : ℕ → List ℕ → List ℕ
@@ -37,6 +37,7 @@ field_text blob path kind = codes "blob " ++ decimal blob ++ codes ": " ++ path 
 
 abbrev pub cause_text : Cause → List ℕ
 cause_text NoChoice = codes "no choice"
+cause_text NotAccepted = codes "not accepted"
 cause_text BrokenRules = codes "catalog rules"
 cause_text NoChannel = codes "no channel"
 cause_text BadWords = codes "words"
@@ -44,14 +45,17 @@ cause_text (Stream fault) = stream_text fault
 cause_text (SplitFile path fault) = path ++ codes " " ++ stream_text fault
 cause_text (FileNotRead path) = codes "file " ++ path ++ codes " isn't read"
 cause_text (Field blob path kind) = field_text blob path kind
-cause_text NotFirstForm = codes "first form"
 cause_text FolderFailed = codes "folder failed"
 cause_text InputFailed = codes "input failed"
 cause_text OutputFailed = codes "output failed"
 cause_text NoMemory = codes "out of memory"
+cause_text BudgetSpent = []
 cause_text TooLong = codes "limit 67108864"
+cause_text (TooManyVariables count) = codes "variables " ++ decimal count
 
+-- the line of a cause; the output alone tells that the budget is spent
 abbrev pub line_of : Cause → List ℕ
+line_of BudgetSpent = []
 line_of cause = codes "olmctl: " ++ cause_text cause ++ codes "\n"
 
 -- what is told of a run that ended so; nothing, where it is done

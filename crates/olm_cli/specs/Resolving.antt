@@ -1,39 +1,37 @@
--- What `resolve` comes to: a choice of a bundle for a package and a channel.
+-- What `resolve` comes to: what is told of the problem that a catalog, a package and a channel put.
 use Rattle.std.specs.Prelude.{◌≡◌, ℕ, List, Option, Some, None, Result, Ok, Err}
-use Rattle.catalog_stream.specs.Stream.{blobs}
-use Rattle.json_fields.specs.Faults.{and_then}
+use Rattle.catalog_choice.specs.Deciding.{IsAnswered}
+use Rattle.catalog_choice.specs.declared.deciding.Answer.{Answer}
+use Rattle.catalog_choice.specs.declared.deciding.Decided.{Decided}
+use Rattle.catalog_choice.specs.declared.deciding.Decided.TheVariants.{Chosen, Refused, Undecided}
+use Rattle.problem_build.specs.declared.building.BuildFault.{BuildFault}
+use Rattle.problem_build.specs.declared.building.BuildFault.TheVariants as fault
 use Rattle.olm_cli.specs.declared.causes.Cause.{Cause}
-use Rattle.olm_cli.specs.declared.causes.Cause.TheVariants.{NoChoice, NotFirstForm}
-use Rattle.olm_cli.specs.declared.choice.Decision.{Decision}
-use Rattle.olm_cli.specs.declared.choice.Decision.TheVariants.{Chosen, Refused}
-use Rattle.olm_cli.specs.declared.first_form.Form.{Form}
-use Rattle.olm_cli.specs.Choice.{offered, IsDecision, printed}
-use Rattle.olm_cli.specs.FirstForm.{form_of}
+use Rattle.olm_cli.specs.declared.causes.Cause.TheVariants.{BudgetSpent, NoChoice, NoMemory, TooManyVariables}
 use Rattle.olm_cli.specs.Reading.{valid_of}
-use Rattle.olm_cli.specs.Runs.{Ran, After}
-
-abbrev pub or_refused : Option Form → Result Form Cause
-or_refused None = Err NotFirstForm
-or_refused (Some form) = Ok form
-
--- the first form of a text whose catalog has been read
-abbrev pub form_of_text : List ℕ → Result Form Cause
-form_of_text text = or_refused (form_of (blobs text).blobs)
-
--- the text is read as a catalog that breaks no rule, and then as one of the first form
-abbrev pub read_form : List ℕ → Result Form Cause
-read_form text = and_then (valid_of text) (λ read. form_of_text text)
+use Rattle.olm_cli.specs.Runs.{Ran, stopped, After}
 
 -- how a run with this decision ends
-abbrev pub ended : Decision → Option Cause
-ended (Chosen taken) = None
+abbrev pub ended : Decided → Option Cause
+ended Chosen = None
 ended Refused = Some NoChoice
+ended Undecided = Some BudgetSpent
 
--- the run prints a decision over the form
-abbrev pub Decides : List ℕ → List ℕ → Form → Ran → Type 0
-Decides package_name channel form ran =
-    (decision : Decision) × IsDecision (offered form package_name channel) decision × (ran ≡ record { output = printed decision; end = ended decision })
+-- the cause for which there is no problem to decide
+abbrev pub problem_cause : BuildFault → Cause
+problem_cause (fault.TooManyVariables count) = TooManyVariables count
+problem_cause fault.Memory = NoMemory
 
--- for a package, a channel and a text
-abbrev pub ResolveRuns : List ℕ → List ℕ → List ℕ → Ran → Type 0
-ResolveRuns package_name channel text = After (read_form text) (Decides package_name channel)
+-- an answer is printed whole, whatever the decision is
+abbrev pub answered_run : Result Answer BuildFault → Ran
+answered_run (Ok answer) = record { output = answer.text.items; end = ended answer.decided }
+answered_run (Err found) = stopped (problem_cause found)
+
+-- the run prints what is told within the budget of the problem that the catalog's text, a package and a channel put
+abbrev pub Answers : ℕ → List ℕ → List ℕ → List ℕ → Ran → Type 0
+Answers budget package_name channel text ran =
+    (answer : Result Answer BuildFault) × IsAnswered text package_name channel budget answer × (ran ≡ answered_run answer)
+
+-- for a budget, a package, a channel and a text, whose catalog must break no rule
+abbrev pub ResolveRuns : ℕ → List ℕ → List ℕ → List ℕ → Ran → Type 0
+ResolveRuns budget package_name channel text = After (valid_of text) (λ read. Answers budget package_name channel text)

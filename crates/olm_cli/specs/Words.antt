@@ -1,5 +1,7 @@
 -- The words of the command line, and the commands that they stand for.
-use Rattle.std.specs.Prelude.{ℕ, ◌==◌, ◌&&◌, not, nat_eq, List, [], ◌∷◌, codes, Bool, false, if◌then◌else◌, Option, Some, None}
+use Rattle.std.specs.Prelude.{ℕ, ◌+◌, ◌*◌, ◌-◌, ◌==◌, ◌&&◌, not, nat_eq, nat_le, List, [], ◌∷◌, take, drop, codes, Bool, false, if◌then◌else◌, Option, Some, None}
+use Rattle.std.specs.Char.{is_ascii_digit}
+use Rattle.std.specs.Option.{option_and_then}
 use Rattle.std.specs.Cmp.Lexicographic.{pointwise}
 use Rattle.olm_cli.specs.declared.words.Command.{Command as CommandWords}
 use Rattle.olm_cli.specs.declared.words.Command.TheVariants as words
@@ -17,10 +19,18 @@ pub data Place : Type 0 where
 pub data Task : Type 0 where
   Check : Task
   Graph : (package_name channel : List ℕ) → Task
-  Resolve : (package_name channel : List ℕ) → Task
+  Resolve : (budget : ℕ) (package_name channel : List ℕ) → Task
 
 pub data Command : Type 0 where
   OnCatalog : Place → Task → Command
+  Verify : (path package_name channel : List ℕ) → Command
+
+-- the budget where the words name none, and the greatest one
+abbrev pub default_budget : ℕ
+default_budget = 10000
+
+abbrev pub greatest_budget : ℕ
+greatest_budget = 16777216
 
 -- the command whose words code has borrowed
 abbrev pub place_view : PlaceWords → Place
@@ -30,10 +40,11 @@ place_view (place.Below path) = Below path.now
 abbrev pub task_view : TaskWords → Task
 task_view task.Check = Check
 task_view (task.Graph names) = Graph names.package_name.now names.channel.now
-task_view (task.Resolve names) = Resolve names.package_name.now names.channel.now
+task_view (task.Resolve budget names) = Resolve budget names.package_name.now names.channel.now
 
 abbrev pub command_view : CommandWords → Command
 command_view (words.OnCatalog place task) = OnCatalog (place_view place) (task_view task)
+command_view (words.Verify path names) = Verify path.now names.package_name.now names.channel.now
 
 -- a word that is no option, and not empty
 abbrev pub is_plain : List ℕ → Bool
@@ -54,10 +65,48 @@ graph_of (path ∷ package_name ∷ channel ∷ []) =
     if is_plain path && is_plain package_name && is_plain channel then Some (OnCatalog (place_of path) (Graph package_name channel)) else None
 graph_of words = None
 
+abbrev pub resolve_within : ℕ → List (List ℕ) → Option Command
+resolve_within budget (path ∷ package_name ∷ channel ∷ []) =
+    if is_plain path && is_plain package_name && is_plain channel then Some (OnCatalog (place_of path) (Resolve budget package_name channel)) else None
+resolve_within budget words = None
+
+-- a number with one digit more behind it, where that is a budget
+abbrev pub with_digit : ℕ → ℕ → Option ℕ
+with_digit value digit =
+    if is_ascii_digit digit && nat_le (value * 10 + (digit - 48)) greatest_budget then Some (value * 10 + (digit - 48)) else None
+
+-- the number that digits write behind a number
+abbrev pub number_after : ℕ → List ℕ → Option ℕ
+number_after value [] = Some value
+number_after value (digit ∷ digits) = option_and_then (λ longer. number_after longer digits) (with_digit value digit)
+
+-- the budget that these digits write, at least one and no zero first
+abbrev pub budget_of : List ℕ → Option ℕ
+budget_of [] = None
+budget_of (first ∷ digits) = if first == 48 then None else number_after 0 (first ∷ digits)
+
+-- what stands behind `--budget=`
+abbrev pub budget_text : List ℕ → Option (List ℕ)
+budget_text word = if pointwise nat_eq (take 9 word) (codes "--budget=") then Some (drop 9 word) else None
+
+abbrev pub resolve_by : Option ℕ → List (List ℕ) → Option Command
+resolve_by None words = None
+resolve_by (Some budget) words = resolve_within budget words
+
+abbrev pub resolve_behind : Option (List ℕ) → List ℕ → List (List ℕ) → Option Command
+resolve_behind None word words = resolve_within default_budget (word ∷ words)
+resolve_behind (Some digits) word words = resolve_by (budget_of digits) words
+
+-- `[--budget=N] PATH PACKAGE CHANNEL`
 abbrev pub resolve_of : List (List ℕ) → Option Command
-resolve_of (path ∷ package_name ∷ channel ∷ []) =
-    if is_plain path && is_plain package_name && is_plain channel then Some (OnCatalog (place_of path) (Resolve package_name channel)) else None
-resolve_of words = None
+resolve_of [] = None
+resolve_of (word ∷ words) = resolve_behind (budget_text word) word words
+
+-- `PATH PACKAGE CHANNEL`, where the input is no place
+abbrev pub verify_of : List (List ℕ) → Option Command
+verify_of (path ∷ package_name ∷ channel ∷ []) =
+    if is_plain path && is_plain package_name && is_plain channel then Some (Verify path package_name channel) else None
+verify_of words = None
 
 -- The first word names the command, and the others must have its form. Other words are no command.
 abbrev pub command_of : List (List ℕ) → Option Command
@@ -66,4 +115,5 @@ command_of (name ∷ words) =
     if pointwise nat_eq name (codes "check") then check_of words
     else if pointwise nat_eq name (codes "graph") then graph_of words
     else if pointwise nat_eq name (codes "resolve") then resolve_of words
+    else if pointwise nat_eq name (codes "verify") then verify_of words
     else None

@@ -18,23 +18,24 @@ use crate::graph::graph_text;
 use crate::lines::tell_cause;
 use crate::places::read_place;
 use crate::resolving::resolve_text;
+use crate::verifying::verify;
 use crate::words::{Command, Place, Task, command_of};
-use olm_base::Text;
+use olm_base::{Bytes, Text};
 use olm_folder::Folder;
 use olm_io::{Sink, Source};
 use std::alloc::Global;
 
 /// Does a task over a text.
-fn run_task<O: Sink>(alloc: Global, task: Task<'_>, text: &[u8], out: &mut O) -> Option<Cause>
-    requires within { length text.now ≤ input_limit }
-    ensures run { Comes (spec.TaskRuns (task_view task.entry) text.now) result (O.held out.old) (O.held out.new) }
+fn run_task<O: Sink>(alloc: Global, task: Task<'_>, text: Bytes, out: &mut O) -> Option<Cause>
+    requires within { length text ≤ input_limit }
+    ensures run { Comes (spec.TaskRuns (task_view task.entry) text) result (O.held out.old) (O.held out.new) }
     ensures cause { HasCause (O.faults out.old) (O.faults out.new) (result ≡ Some Cause.OutputFailed) }
     ensures kind { is_after_reading result ≡ true }
 {
     match task {
-        Task::Check => check_text(alloc, text, out),
-        Task::Graph(names) => graph_text(alloc, text, names, out),
-        Task::Resolve(names) => resolve_text(alloc, text, names, out),
+        Task::Check => check_text(alloc, text.as_slice(), out),
+        Task::Graph(names) => graph_text(alloc, text.as_slice(), names, out),
+        Task::Resolve { budget, names } => resolve_text(alloc, text, budget, names, out),
     }
 }
 
@@ -58,7 +59,7 @@ fn run_catalog<F: Folder, S: Source, O: Sink>(
     ensures end { is_answered (status_of result) ≡ true → is_input (place_view place.entry) ≡ true → IsAtEnd (S.left input.new) }
 {
     match read_place(alloc, place, folder, input) {
-        Ok(text) => run_task(alloc, task, text.as_slice(), out),
+        Ok(text) => run_task(alloc, task, text, out),
         Err(cause) => Some(cause),
     }
 }
@@ -86,6 +87,7 @@ fn run<F: Folder, S: Source, O: Sink>(
         Some(Command::OnCatalog { place, task }) => {
             run_catalog(alloc, place, task, folder, input, out)
         }
+        Some(Command::Verify { path, names }) => verify(alloc, path, names, folder, input, out),
     }
 }
 

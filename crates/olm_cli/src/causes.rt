@@ -10,25 +10,31 @@ use olm_base::{FieldKind, Text};
 pub enum Exit {
     /// Status 0: done.
     Done,
-    /// Status 1: no choice meets the constraints, the catalog breaks a rule, or it has no such channel.
+    /// Status 1: no choice meets the constraints, a certificate isn't accepted, the catalog breaks a rule, or it has no
+    /// such channel.
     Refused,
     /// Status 2: the words are no command line of this program.
     Words,
-    /// Status 3: the input or the folder isn't a catalog, or not one of the first form where that is asked for.
+    /// Status 3: the input or the folder isn't a catalog.
     Input,
     /// Status 4: a call of the folder, the input or the output failed.
     Outside,
     /// Status 5: memory ran out.
     Memory,
-    /// Status 8: the input, or the folder's files together, are longer than the limit.
+    /// Status 6: the budget was spent before there was a decision.
+    Unfinished,
+    /// Status 8: the input, or the folder's files together, are longer than the limit, or the problem is larger.
     Limit,
 }
 
-/// Why a run ends with another status than 0. Each has its line on `err`.
+/// Why a run ends with another status than 0. Each has its line on `err`, but for `BudgetSpent`, which the output
+/// tells.
 #[derive(Debug, Drop, PartialEq)]
 pub enum Cause {
     /// No choice meets the constraints.
     NoChoice,
+    /// The text of the input isn't accepted as a certificate of the problem.
+    NotAccepted,
     /// The catalog breaks a rule.
     BrokenRules,
     /// The catalog has no channel of these names.
@@ -52,8 +58,6 @@ pub enum Cause {
         path: Text,
         kind: FieldKind,
     },
-    /// The catalog isn't of the first form.
-    NotFirstForm,
     /// A call of the folder failed.
     FolderFailed,
     /// A call of the input failed.
@@ -62,8 +66,14 @@ pub enum Cause {
     OutputFailed,
     /// Memory ran out.
     NoMemory,
+    /// The budget was spent before there was a decision.
+    BudgetSpent,
     /// The input, or the folder's files together, are longer than the limit.
     TooLong,
+    /// The problem has so many variables, or one of them so many constraints, and that is above the limit.
+    TooManyVariables {
+        count: u64,
+    },
 }
 
 /// The status of a run that ended so.
@@ -71,13 +81,15 @@ pub fn exit_of(cause: &Cause) -> Exit
     ensures { result ≡ spec.exit_of cause.now }
 {
     match cause {
-        Cause::NoChoice | Cause::BrokenRules | Cause::NoChannel => Exit::Refused,
+        Cause::NoChoice | Cause::NotAccepted => Exit::Refused,
+        Cause::BrokenRules | Cause::NoChannel => Exit::Refused,
         Cause::BadWords => Exit::Words,
         Cause::Stream(_) | Cause::SplitFile { .. } | Cause::FileNotRead { .. } => Exit::Input,
-        Cause::Field { .. } | Cause::NotFirstForm => Exit::Input,
+        Cause::Field { .. } => Exit::Input,
         Cause::FolderFailed | Cause::InputFailed | Cause::OutputFailed => Exit::Outside,
         Cause::NoMemory => Exit::Memory,
-        Cause::TooLong => Exit::Limit,
+        Cause::BudgetSpent => Exit::Unfinished,
+        Cause::TooLong | Cause::TooManyVariables { .. } => Exit::Limit,
     }
 }
 
@@ -92,6 +104,7 @@ pub fn status(exit: Exit) -> u8
         Exit::Input => 3,
         Exit::Outside => 4,
         Exit::Memory => 5,
+        Exit::Unfinished => 6,
         Exit::Limit => 8,
     }
 }

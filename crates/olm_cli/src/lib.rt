@@ -9,9 +9,6 @@
 mod call;
 mod causes;
 mod checking;
-mod choice;
-mod fields;
-mod first_form;
 mod graph;
 mod lines;
 mod places;
@@ -20,12 +17,11 @@ mod reading;
 mod resolving;
 #[cfg(test)]
 mod tests;
+mod verifying;
 mod words;
 
 pub use call::olmctl;
 pub use causes::{Cause, Exit, exit_of, status};
-pub use choice::Decision;
-pub use first_form::{Form, Listed};
 pub use lines::tell_cause;
 pub use reading::Valid;
 pub use words::{ChannelWords, Command, Place, Task};

@@ -124,6 +124,15 @@ fn unread_line(alloc: Global, path: &Text) -> Result<Vec<u8>, Memory>
     Ok(bytes)
 }
 
+fn variables_line(alloc: Global, count: u64) -> Result<Vec<u8>, Memory>
+    ensures { IfOk result (λ line. line.items ≡ spec.line_of (Cause.TooManyVariables count)) }
+{
+    let mut bytes = Vec::from_slice(alloc, b"olmctl: variables ")?;
+    push_number(&mut bytes, alloc, count)?;
+    bytes.push(b'\n')?;
+    Ok(bytes)
+}
+
 /// The line of a cause: it stands in the program, or it is made of the cause's parts.
 #[derive(Drop)]
 enum Line {
@@ -148,6 +157,7 @@ fn line_of(alloc: Global, cause: &Cause) -> Result<Line, Memory>
 {
     match cause {
         Cause::NoChoice => Ok(Line::Fixed(b"olmctl: no choice\n")),
+        Cause::NotAccepted => Ok(Line::Fixed(b"olmctl: not accepted\n")),
         Cause::BrokenRules => Ok(Line::Fixed(b"olmctl: catalog rules\n")),
         Cause::NoChannel => Ok(Line::Fixed(b"olmctl: no channel\n")),
         Cause::BadWords => Ok(Line::Fixed(b"olmctl: words\n")),
@@ -157,12 +167,13 @@ fn line_of(alloc: Global, cause: &Cause) -> Result<Line, Memory>
         Cause::Field { blob, path, kind } => {
             Ok(Line::Made(field_line(alloc, *blob, path, *kind)?))
         }
-        Cause::NotFirstForm => Ok(Line::Fixed(b"olmctl: first form\n")),
         Cause::FolderFailed => Ok(Line::Fixed(b"olmctl: folder failed\n")),
         Cause::InputFailed => Ok(Line::Fixed(b"olmctl: input failed\n")),
         Cause::OutputFailed => Ok(Line::Fixed(b"olmctl: output failed\n")),
         Cause::NoMemory => Ok(Line::Fixed(b"olmctl: out of memory\n")),
+        Cause::BudgetSpent => Ok(Line::Fixed(b"")),
         Cause::TooLong => Ok(Line::Fixed(b"olmctl: limit 67108864\n")),
+        Cause::TooManyVariables { count } => Ok(Line::Made(variables_line(alloc, *count)?)),
     }
 }
 

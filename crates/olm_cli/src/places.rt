@@ -19,7 +19,7 @@ use olm_io::{FolderFault, Source, read_all};
 use std::alloc::Global;
 
 /// The input's text.
-fn read_input<S: Source>(alloc: Global, input: &mut S) -> Result<Bytes, Cause>
+pub(crate) fn read_input<S: Source>(alloc: Global, input: &mut S) -> Result<Bytes, Cause>
     ensures answer { (text : List ℕ) × IsTold (S.left input.old) text × Gives is_free (spec.within_limit text) result }
     ensures within { IfOk result (λ text. length text ≤ input_limit) }
     ensures cause { HasCause (S.faults input.old) (S.faults input.new) (IsErrOf result Cause.InputFailed) }
@@ -49,7 +49,11 @@ fn body_cause(fault: BodyFault) -> Cause
 }
 
 /// The text of the files below a path.
-fn read_folder<F: Folder>(alloc: Global, path: &Text, folder: &mut F) -> Result<Bytes, Cause>
+pub(crate) fn read_folder<F: Folder>(
+    alloc: Global,
+    path: &Text,
+    folder: &mut F,
+) -> Result<Bytes, Cause>
     ensures answer { (found : Result (List ℕ) Cause) × spec.FolderHolds path.now (F.held folder.old) found × Gives is_free found result }
     ensures within { IfOk result (λ text. length text ≤ input_limit) }
     ensures same { F.held folder.new ≡ F.held folder.old }

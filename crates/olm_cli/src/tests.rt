@@ -19,7 +19,41 @@ const ONE: &[&str] = &[PACKAGE, CHANNEL, BUNDLE];
 
 const RESOLVE: &[&str] = &["resolve", "@", "argo", "stable"];
 
-const TAKEN: &str = "chosen\ntake olm/catalog argo stable argo.v1.0.0 1.0.0\n";
+const TAKEN: &str =
+    "chosen\ntake olm/catalog argo stable argo.v1.0.0 1.0.0\ncertificate 1 chosen\nvars 2\nwalk 0\nend\n";
+
+const REFUSED: &str = "refused\ncertificate 1 refused\nvars 1\nrefute-all -0 : G0.1\nend\n";
+
+/// The head needs a package in a version that isn't there.
+const LACKING: &str = r#"{"schema":"olm.package","name":"argo","defaultChannel":"stable"}
+{"schema":"olm.channel","package":"argo","name":"stable","entries":[{"name":"argo.v2.0.0","replaces":"argo.v1.0.0"},{"name":"argo.v1.0.0"}]}
+{"schema":"olm.bundle","package":"argo","name":"argo.v2.0.0","image":"q","properties":[{"type":"olm.package","value":{"packageName":"argo","version":"2.0.0"}},{"type":"olm.package.required","value":{"packageName":"base","versionRange":">=2.0.0"}}]}
+{"schema":"olm.bundle","package":"argo","name":"argo.v1.0.0","image":"q","properties":[{"type":"olm.package","value":{"packageName":"argo","version":"1.0.0"}}]}
+{"schema":"olm.package","name":"base","defaultChannel":"stable"}
+{"schema":"olm.channel","package":"base","name":"stable","entries":[{"name":"base.v1.9.0"}]}
+{"schema":"olm.bundle","package":"base","name":"base.v1.9.0","image":"q","properties":[{"type":"olm.package","value":{"packageName":"base","version":"1.9.0"}}]}"#;
+
+const LACKING_TAKEN: &str =
+    "chosen\ntake olm/catalog argo stable argo.v1.0.0 1.0.0\ncertificate 1 chosen\nvars 4\nwalk 1\nrefute 0 0 -1 : G1.0\nend\n";
+
+/// One bundle needs two packages, and each version of either gives the same kind.
+const CLASHING: &[&str] = &[
+    r#"{"schema":"olm.package","name":"a","defaultChannel":"s"}"#,
+    r#"{"schema":"olm.channel","package":"a","name":"s","entries":[{"name":"a.v1"}]}"#,
+    r#"{"schema":"olm.bundle","package":"a","name":"a.v1","image":"q","properties":[{"type":"olm.package","value":{"packageName":"a","version":"1.0.0"}},{"type":"olm.package.required","value":{"packageName":"x","versionRange":">=1.0.0"}},{"type":"olm.package.required","value":{"packageName":"y","versionRange":">=1.0.0"}}]}"#,
+    r#"{"schema":"olm.package","name":"x","defaultChannel":"s"}"#,
+    r#"{"schema":"olm.channel","package":"x","name":"s","entries":[{"name":"x.v3","replaces":"x.v2"},{"name":"x.v2","replaces":"x.v1"},{"name":"x.v1"}]}"#,
+    r#"{"schema":"olm.bundle","package":"x","name":"x.v3","image":"q","properties":[{"type":"olm.package","value":{"packageName":"x","version":"3.0.0"}},{"type":"olm.gvk","value":{"group":"g.io","version":"v1","kind":"K"}}]}"#,
+    r#"{"schema":"olm.bundle","package":"x","name":"x.v2","image":"q","properties":[{"type":"olm.package","value":{"packageName":"x","version":"2.0.0"}},{"type":"olm.gvk","value":{"group":"g.io","version":"v1","kind":"K"}}]}"#,
+    r#"{"schema":"olm.bundle","package":"x","name":"x.v1","image":"q","properties":[{"type":"olm.package","value":{"packageName":"x","version":"1.0.0"}},{"type":"olm.gvk","value":{"group":"g.io","version":"v1","kind":"K"}}]}"#,
+    r#"{"schema":"olm.package","name":"y","defaultChannel":"s"}"#,
+    r#"{"schema":"olm.channel","package":"y","name":"s","entries":[{"name":"y.v2","replaces":"y.v1"},{"name":"y.v1"}]}"#,
+    r#"{"schema":"olm.bundle","package":"y","name":"y.v2","image":"q","properties":[{"type":"olm.package","value":{"packageName":"y","version":"2.0.0"}},{"type":"olm.gvk","value":{"group":"g.io","version":"v1","kind":"K"}}]}"#,
+    r#"{"schema":"olm.bundle","package":"y","name":"y.v1","image":"q","properties":[{"type":"olm.package","value":{"packageName":"y","version":"1.0.0"}},{"type":"olm.gvk","value":{"group":"g.io","version":"v1","kind":"K"}}]}"#,
+];
+
+const CLASHING_LEFT: &str =
+    "undecided\ncertificate 1 undecided\nvars 10\nlemma -0 -1 -2 : G9.0(2,6) G9.0(2,5) G1.1\nend\n";
 
 fn words(alloc: Global, words: &[&str]) -> Result<Vec<Text>, Fail> {
     let mut texts = Vec::new(alloc);
@@ -75,22 +109,42 @@ fn run(
 }
 
 #[test]
-fn commands_answer(rt: HostRuntime) -> Result<(), Fail> {
-    let refused = "refused\n";
+fn catalogs_are_decided(rt: HostRuntime) -> Result<(), Fail> {
     let no_choice = "olmctl: no choice\n";
-    for (package, channel, catalog, exit, output, line) in [
-        ("argo", "stable", ONE, Exit::Done, TAKEN, ""),
-        ("argo", "stable", &[], Exit::Refused, refused, no_choice),
-        ("argo", "fast", ONE, Exit::Refused, refused, no_choice),
-        ("stable", "argo", ONE, Exit::Refused, refused, no_choice),
-        ("no name", "stable", ONE, Exit::Refused, refused, no_choice),
+    for (command, catalog, exit, output, line) in [
+        (RESOLVE, ONE, Exit::Done, TAKEN, ""),
+        (RESOLVE, &[LACKING], Exit::Done, LACKING_TAKEN, ""),
+        (
+            &["resolve", "--budget=16777216", "@", "argo", "stable"],
+            ONE,
+            Exit::Done,
+            TAKEN,
+            "",
+        ),
+        (RESOLVE, &[], Exit::Refused, REFUSED, no_choice),
+        (
+            &["resolve", "@", "argo", "fast"],
+            ONE,
+            Exit::Refused,
+            REFUSED,
+            no_choice,
+        ),
+        (
+            &["resolve", "@", "no name", "stable"],
+            ONE,
+            Exit::Refused,
+            REFUSED,
+            no_choice,
+        ),
+        (
+            &["resolve", "--budget=1", "@", "a", "s"],
+            CLASHING,
+            Exit::Unfinished,
+            CLASHING_LEFT,
+            "",
+        ),
     ] {
-        let (ended, out, err) = run(
-            rt.alloc(),
-            &["resolve", "@", package, channel],
-            &[],
-            text(rt.alloc(), catalog)?,
-        )?;
+        let (ended, out, err) = run(rt.alloc(), command, &[], text(rt.alloc(), catalog)?)?;
         assert_eq!(rt; ended, exit);
         assert_eq!(rt; out.bytes(), output.as_bytes());
         assert_eq!(rt; err.bytes(), line.as_bytes());
@@ -105,6 +159,12 @@ fn other_words_are_refused(rt: HostRuntime) -> Result<(), Fail> {
         none.as_slice(),
         &["frob"],
         &["resolve", "--budget=0", "@", "a", "s"],
+        &["resolve", "--budget=01", "@", "a", "s"],
+        &["resolve", "--budget=16777217", "@", "a", "s"],
+        &["resolve", "--budget=", "@", "a", "s"],
+        &["resolve", "--budget=1x", "@", "a", "s"],
+        &["resolve", "--budget=1", "--budget=1", "@", "a", "s"],
+        &["resolve", "@", "--budget=1", "a", "s"],
         &["resolve", "catalog", "a"],
         &["check"],
         &["check", ""],
@@ -117,6 +177,8 @@ fn other_words_are_refused(rt: HostRuntime) -> Result<(), Fail> {
         &["resolve", "@", "a", ""],
         &["resolve", "@", "-a", "s"],
         &["resolve", "@", "a", "-s"],
+        &["verify", "@", "a"],
+        &["verify", "--budget=1", "a", "b", "c"],
         &["--version"],
     ] {
         let (exit, out, err) = run(rt.alloc(), command, &[], text(rt.alloc(), ONE)?)?;
@@ -132,11 +194,6 @@ fn faults_of_the_text_are_told(rt: HostRuntime) -> Result<(), Fail> {
     let nameless = r#"{"schema":"olm.package","name":"a b","defaultChannel":"s"}"#;
     let skips =
         r#"{"schema":"olm.channel","package":"argo","name":"stable","entries":[{"name":"argo.v1.0.0"},{"name":"b","skips":7}]}"#;
-    let wide = r#"{"schema":"olm.package","name":"argo","defaultChannel":"stable","icon":null}"#;
-    let rc =
-        r#"{"schema":"olm.bundle","package":"argo","name":"argo.v1.0.0","image":"","properties":[{"type":"olm.package","value":{"packageName":"argo","version":"1.0.0-rc"}}]}"#;
-    let note = r#"{"schema":"example.note"}"#;
-    let first_form = "olmctl: first form\n";
     for (catalog, line) in [
         (
             [r#"{"schema":"x\""#].as_slice(),
@@ -157,10 +214,6 @@ fn faults_of_the_text_are_told(rt: HostRuntime) -> Result<(), Fail> {
             &[PACKAGE, skips, BUNDLE],
             "olmctl: blob 1: .entries[1].skips wrong type\n",
         ),
-        (&[CHANNEL, PACKAGE, BUNDLE], first_form),
-        (&[PACKAGE, CHANNEL, BUNDLE, note], first_form),
-        (&[wide, CHANNEL, BUNDLE], first_form),
-        (&[PACKAGE, CHANNEL, rc], first_form),
     ] {
         let (exit, out, err) = run(rt.alloc(), RESOLVE, &[], text(rt.alloc(), catalog)?)?;
         assert_eq!(rt; exit, Exit::Input);
@@ -206,6 +259,42 @@ fn catalog(alloc: Global, entries: &str, bundles: &[(&str, &str)]) -> Result<Byt
     Ok(Bytes::from_vec(bytes))
 }
 
+const THREE: &[(&str, &str)] = &[
+    ("c.v3.0.0", "3.0.0"),
+    ("c.v2.1.0", "2.1.0"),
+    ("c.v2.0.0", "2.0.0"),
+];
+
+const FOUR: &[(&str, &str)] = &[
+    ("c.v3.0.0", "3.0.0"),
+    ("c.v2.1.0", "2.1.0"),
+    ("c.v2.0.0", "2.0.0"),
+    ("c.v1.5.0", "1.5.0"),
+];
+
+const OTHERS: &[(&str, &str)] = &[
+    ("c.v3.0.0", "3.0.0"),
+    ("c.v2.5.0", "2.5.0"),
+    ("c.v2.1.0", "2.1.0"),
+    ("c.v2.0.0", "2.0.0"),
+];
+
+const LETTERS: &[(&str, &str)] = &[("h", "3.0.0"), ("a", "2.0.0"), ("b", "1.0.0")];
+
+const PAIR: &[(&str, &str)] = &[("h", "3.0.0"), ("p", "2.0.0"), ("q", "1.0.0")];
+
+const STEPS: &[(&str, &str)] = &[
+    ("c.v3.0.0", "3.0.0"),
+    ("c.v2.0.0", "2.0.0"),
+    ("c.v1.0.0", "1.0.0"),
+];
+
+const SECOND_LETTER: &[(&str, &str)] = &[("a", "2.0.0")];
+
+const CHECK: &[&str] = &["check", "@"];
+
+const GRAPH: &[&str] = &["graph", "@", "c", "s"];
+
 #[test]
 fn catalogs_are_checked_and_drawn(rt: HostRuntime) -> Result<(), Fail> {
     let alloc = rt.alloc();
@@ -223,68 +312,42 @@ fn catalogs_are_checked_and_drawn(rt: HostRuntime) -> Result<(), Fail> {
         r#"{"name":"c.v3.0.0","replaces":"c.v2.0.0","skipRange":">=1.0.0 <3.0.0"},{"name":"c.v2.0.0","replaces":"c.v1.0.0"},{"name":"c.v1.0.0","skipRange":">=0.1.0 <3.0.0"}"#;
     let drawn =
         "c.v3.0.0 3.0.0 <- c.v2.0.0 c.v1.0.0\nc.v2.0.0 2.0.0 <- c.v1.0.0\nc.v1.0.0 1.0.0 <-\n";
-    let three = [
-        ("c.v3.0.0", "3.0.0"),
-        ("c.v2.1.0", "2.1.0"),
-        ("c.v2.0.0", "2.0.0"),
-    ];
-    let four = [
-        ("c.v3.0.0", "3.0.0"),
-        ("c.v2.1.0", "2.1.0"),
-        ("c.v2.0.0", "2.0.0"),
-        ("c.v1.5.0", "1.5.0"),
-    ];
-    let others = [
-        ("c.v3.0.0", "3.0.0"),
-        ("c.v2.5.0", "2.5.0"),
-        ("c.v2.1.0", "2.1.0"),
-        ("c.v2.0.0", "2.0.0"),
-    ];
-    let letters = [("h", "3.0.0"), ("a", "2.0.0"), ("b", "1.0.0")];
-    let pair = [("h", "3.0.0"), ("p", "2.0.0"), ("q", "1.0.0")];
-    let steps = [
-        ("c.v3.0.0", "3.0.0"),
-        ("c.v2.0.0", "2.0.0"),
-        ("c.v1.0.0", "1.0.0"),
-    ];
-    let check = ["check", "@"];
-    let graph = ["graph", "@", "c", "s"];
     let rules = "olmctl: catalog rules\n";
     let no_channel = "olmctl: no channel\n";
     for (command, entries, bundles, exit, output, line) in [
         (
-            check.as_slice(),
+            CHECK,
             heads,
-            three.as_slice(),
+            THREE,
             Exit::Done,
             "packages 1 channels 1 bundles 3\n",
             "",
         ),
-        (&check, two_heads, &four, Exit::Refused, "V10 c/s\n", rules),
-        (&check, crossed, &others, Exit::Refused, "V10 c/s\n", rules),
-        (&check, cycle, &letters, Exit::Refused, "V11 c/s\n", rules),
+        (CHECK, two_heads, FOUR, Exit::Refused, "V10 c/s\n", rules),
+        (CHECK, crossed, OTHERS, Exit::Refused, "V10 c/s\n", rules),
+        (CHECK, cycle, LETTERS, Exit::Refused, "V11 c/s\n", rules),
         (
-            &check,
+            CHECK,
             itself,
-            &letters[1..2],
+            SECOND_LETTER,
             Exit::Refused,
             "V9 c/s\n",
             rules,
         ),
         (
-            &check,
+            CHECK,
             apart,
-            &pair,
+            PAIR,
             Exit::Refused,
             "V12 c/s/p\nV12 c/s/q\n",
             rules,
         ),
-        (&graph, ranges, &steps, Exit::Done, drawn, ""),
-        (&graph, two_heads, &four, Exit::Refused, "", rules),
+        (GRAPH, ranges, STEPS, Exit::Done, drawn, ""),
+        (GRAPH, two_heads, FOUR, Exit::Refused, "", rules),
         (
             &["graph", "@", "c", "t"],
             ranges,
-            &steps,
+            STEPS,
             Exit::Refused,
             "",
             no_channel,
@@ -292,7 +355,7 @@ fn catalogs_are_checked_and_drawn(rt: HostRuntime) -> Result<(), Fail> {
         (
             &["graph", "@", "c c", "s"],
             ranges,
-            &steps,
+            STEPS,
             Exit::Refused,
             "",
             no_channel,
@@ -300,18 +363,10 @@ fn catalogs_are_checked_and_drawn(rt: HostRuntime) -> Result<(), Fail> {
         (
             &["resolve", "@", "c", "s"],
             two_heads,
-            &four,
+            FOUR,
             Exit::Refused,
             "",
             rules,
-        ),
-        (
-            &["resolve", "@", "c", "s"],
-            heads,
-            &three,
-            Exit::Input,
-            "",
-            "olmctl: first form\n",
         ),
     ] {
         let text = catalog(alloc, entries, bundles)?;
@@ -389,6 +444,52 @@ fn folders_are_read(rt: HostRuntime) -> Result<(), Fail> {
     Ok(())
 }
 
+#[test]
+fn certificates_are_verified(rt: HostRuntime) -> Result<(), Fail> {
+    let alloc = rt.alloc();
+    let all = [("all/c.json", LACKING), ("@/c.json", LACKING)];
+    let of_all = ["verify", "all", "argo", "stable"];
+    let accepted = "accepted chosen 1\n";
+    let good = "certificate 1 chosen\nvars 4\nwalk 1\nrefute 0 0 -1 : G1.0\nend\n";
+    for (command, certificate, output) in [
+        (of_all.as_slice(), good, accepted),
+        (&["verify", "@", "argo", "stable"], good, accepted),
+        (
+            &["verify", "none", "argo", "stable"],
+            "certificate 1 refused\nvars 1\nrefute-all -0 : G0.1\nend\n",
+            "accepted refused\n",
+        ),
+        (
+            &of_all,
+            "certificate 1 chosen\nvars 4\nwalk 0\nend\n",
+            "not accepted: walk 1\n",
+        ),
+        (
+            &of_all,
+            "certificate 1 chosen\nvars 4\nwalk 1\nrefute 0 0 -1 : G1.1\nend\n",
+            "not accepted: step 0 0 bad-given\n",
+        ),
+        (
+            &of_all,
+            "certificate 1 chosen\nvars 4\nwalk 1\nrefute 0 0 -1 : G0.1 G1.0\nend\n",
+            "not accepted: step 0 0 hint-not-unit\n",
+        ),
+        (
+            &of_all,
+            "certificate 1 chosen\nvars 4\nwalk 1\nrefute 0 0 -1 : G1.0\n",
+            "not accepted: cut short\n",
+        ),
+    ] {
+        let (ended, out, err) = run(alloc, command, &all, text(alloc, &[certificate])?)?;
+        let kept = output.as_bytes().starts_with(b"accepted");
+        assert_eq!(rt; ended, if kept { Exit::Done } else { Exit::Refused });
+        assert_eq!(rt; out.bytes(), output.as_bytes());
+        let line = if kept { "" } else { "olmctl: not accepted\n" };
+        assert_eq!(rt; err.bytes(), line.as_bytes());
+    }
+    Ok(())
+}
+
 /// The status, what `out` got, and what `err` got, where these calls of the folder, the input and the output fail.
 fn run_failing(
     alloc: Global,
@@ -421,6 +522,7 @@ fn run_failing(
 fn a_failing_call_is_named(rt: HostRuntime) -> Result<(), Fail> {
     let alloc = rt.alloc();
     let all = ["resolve", "all", "argo", "stable"];
+    let verify = ["verify", "all", "argo", "stable"];
     for (command, folder, input, out, line) in [
         (
             all.as_slice(),
@@ -433,6 +535,9 @@ fn a_failing_call_is_named(rt: HostRuntime) -> Result<(), Fail> {
         (&all, &[2], &[], &[], "folder"),
         (&all, &[3], &[], &[], "folder"),
         (&all, &[4], &[0], &[0], "output"),
+        (&verify, &[0], &[0], &[], "folder"),
+        (&verify, &[4], &[0], &[0], "input"),
+        (&verify, &[], &[], &[0], "output"),
         (RESOLVE, &[], &[0], &[], "input"),
         (RESOLVE, &[0], &[1], &[], "input"),
         (RESOLVE, &[], &[], &[0], "output"),

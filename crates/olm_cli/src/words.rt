@@ -1,8 +1,14 @@
 // The words of the command line.
-ghost use Rattle.std.specs.Prelude.{◌≡◌, option_map};
+ghost use Rattle.std.specs.Prelude.{◌≡◌, ◌≤◌, option_map, IfSome};
 ghost use Rattle.olm_cli.specs.Words as spec;
 
 use olm_base::Text;
+
+/// The budget where the words name none.
+const DEFAULT_BUDGET: u32 = 10_000;
+
+/// The greatest budget.
+const GREATEST_BUDGET: u32 = 16_777_216;
 
 /// Where a catalog stands. The word `@` is the input.
 #[derive(Clone, Copy, Debug)]
@@ -26,14 +32,27 @@ pub enum Task<'w> {
     Check,
     /// `graph PATH PACKAGE CHANNEL`: lists the channel's upgrades.
     Graph(ChannelWords<'w>),
-    /// `resolve PATH PACKAGE CHANNEL`: chooses a bundle for a subscription to the channel.
-    Resolve(ChannelWords<'w>),
+    /// `resolve [--budget=N] PATH PACKAGE CHANNEL`: decides for a subscription to the channel, with no more lemmas than
+    /// the budget.
+    Resolve {
+        budget: u32,
+        names: ChannelWords<'w>,
+    },
 }
 
 /// A command, with the words that it is given.
 #[derive(Clone, Copy, Debug)]
 pub enum Command<'w> {
-    OnCatalog { place: Place<'w>, task: Task<'w> },
+    OnCatalog {
+        place: Place<'w>,
+        task: Task<'w>,
+    },
+    /// `verify PATH PACKAGE CHANNEL`: says what the input shows of the problem of `resolve` over the folder's catalog.
+    /// The word `@` is a folder's path here.
+    Verify {
+        path: &'w Text,
+        names: ChannelWords<'w>,
+    },
 }
 
 /// Whether a word is no option, and not empty.
@@ -95,18 +114,106 @@ fn graph_of(words: &[Text]) -> Option<Command<'_>>
     }
 }
 
-fn resolve_of(words: &[Text]) -> Option<Command<'_>>
-    ensures { option_map spec.command_view result ≡ spec.resolve_of words.now }
+fn resolve_within(budget: u32, words: &[Text]) -> Option<Command<'_>>
+    ensures { option_map spec.command_view result ≡ spec.resolve_within budget words.now }
 {
     match words {
         [path, package_name, channel] => {
             if is_plain(path) && is_plain(package_name) && is_plain(channel) {
                 let place = place_of(path);
-                let task = Task::Resolve(ChannelWords {
+                let names = ChannelWords {
                     package_name,
                     channel,
-                });
+                };
+                let task = Task::Resolve { budget, names };
                 Some(Command::OnCatalog { place, task })
+            } else {
+                None
+            }
+        }
+        _ => None,
+    }
+}
+
+/// A number with one digit more behind it, where that is a budget.
+fn with_digit(value: u32, digit: u8) -> Option<u32>
+    requires { value ≤ spec.greatest_budget }
+    ensures value { result ≡ spec.with_digit value digit }
+    ensures bound { IfSome result (λ longer. longer ≤ spec.greatest_budget) }
+{
+    if !digit.is_ascii_digit() {
+        return None;
+    }
+    let longer = value * 10 + u32::from(digit - b'0');
+    if longer <= GREATEST_BUDGET {
+        Some(longer)
+    } else {
+        None
+    }
+}
+
+fn number_of(digits: &[u8]) -> Option<u32>
+    ensures { result ≡ spec.number_after 0 digits.now }
+{
+    let mut value: u32 = 0;
+    'digits: for digit in digits {
+        match with_digit(value, *digit) {
+            Some(longer) => value = longer,
+            None => return None,
+        }
+    }
+    Some(value)
+}
+
+/// The budget that these digits write.
+fn budget_of(digits: &[u8]) -> Option<u32>
+    ensures { result ≡ spec.budget_of digits.now }
+{
+    match digits {
+        [] => None,
+        [first, ..] => {
+            if *first == b'0' {
+                None
+            } else {
+                number_of(digits)
+            }
+        }
+    }
+}
+
+/// What stands behind `--budget=`.
+fn budget_text(word: &Text) -> Option<&[u8]>
+    ensures { option_map (λ digits. digits.now) result ≡ spec.budget_text word.now }
+{
+    word.as_slice().strip_prefix(b"--budget=")
+}
+
+fn resolve_of(words: &[Text]) -> Option<Command<'_>>
+    ensures { option_map spec.command_view result ≡ spec.resolve_of words.now }
+{
+    match words {
+        [] => None,
+        [word, rest @ ..] => match budget_text(word) {
+            None => resolve_within(DEFAULT_BUDGET, words),
+            Some(digits) => match budget_of(digits) {
+                None => None,
+                Some(budget) => resolve_within(budget, rest),
+            },
+        },
+    }
+}
+
+fn verify_of(words: &[Text]) -> Option<Command<'_>>
+    ensures { option_map spec.command_view result ≡ spec.verify_of words.now }
+{
+    match words {
+        [path, package_name, channel] => {
+            if is_plain(path) && is_plain(package_name) && is_plain(channel) {
+                let names = ChannelWords {
+                    package_name,
+                    channel,
+                };
+                Some(Command::Verify { path, names })
             } else {
                 None
             }
@@ -128,6 +235,8 @@ pub fn command_of(words: &[Text]) -> Option<Command<'_>>
                 graph_of(rest)
             } else if name.as_slice() == b"resolve".as_slice() {
                 resolve_of(rest)
+            } else if name.as_slice() == b"verify".as_slice() {
+                verify_of(rest)
             } else {
                 None
             }

@@ -53,12 +53,13 @@ impl Source for MemSource {
 
     ghost faults = { λ source. source.faults };
 
-    /// Gives as many bytes as fit, or fails exactly where the number of this call is listed.
+    /// Gives as many bytes as fit, or fails exactly where the number of this call is listed; then `into` is as it was.
     fn read(&mut self, into: &mut [u8]) -> Result<usize, Failed>
         ensures fails { is_err result ≡ is_listed self.old.fails self.old.call }
         ensures count { IfOk result (λ count. count ≡ min (length into.old) (length self.old.left)) }
         ensures bytes { IfOk result (λ count. into.new ≡ take count self.old.left ++ drop count into.old) }
         ensures ok { IfOk result (λ count. self.new ≡ record self.old { left = drop count self.old.left; call = one_more self.old.call }) }
+        ensures kept { OnErr result (into.new ≡ into.old) }
         ensures cause { HasCause self.old.faults self.new.faults (IsErr result) }
         ensures err { OnErr result (self.new ≡ record self.old { call = one_more self.old.call; faults = one_more self.old.faults }) }
     {

@@ -1,10 +1,11 @@
 // A source over a reader and a sink over a writer.
-ghost use Rattle.std.specs.Prelude.{◌≡◌, ◌≢◌, Err, OnOk, OnErr, IsErr, IsErrOf};
+ghost use Rattle.std.specs.Prelude.{◌≡◌, ◌≢◌, Ok, Err, IfOk, OnOk, OnErr, IsErr, IsErrOf};
 ghost use Rattle.std.specs.Io.{ReadsAtMost};
 ghost use Rattle.std.specs.Io.KnownBytes.{ReadConsumes, Appends};
 ghost use Rattle.olm_io.specs.Outside.{AppendsFront, HasCause, one_more};
 
 use crate::{Failed, Outage, Sink, Source};
+use std::io;
 use std::io::{Read, Write};
 
 /// A source over a reader, with a count of the reader's errors.
@@ -35,12 +36,24 @@ impl<R: Read> Source for StdSource<R> {
         ensures err { OnErr result (self.new.faults ≡ one_more self.old.faults) }
         ensures cause { HasCause self.old.faults self.new.faults (IsErr result) }
     {
-        match self.inner.read(into) {
-            Ok(count) => Ok(count),
-            Err(_) => {
-                self.faults = self.faults.saturating_add(1);
-                Err(Failed)
-            }
+        let answer = self.inner.read(into);
+        counted(answer, &mut self.faults)
+    }
+}
+
+// What is answered of the reader's answer: its error is the only fault, and the end is none.
+fn counted(answer: io::Result<usize>, faults: &mut u64) -> Result<usize, Failed>
+    ensures ok { IfOk answer (λ count. result ≡ Ok count) }
+    ensures same { OnOk answer (faults.new ≡ faults.old) }
+    ensures err { OnErr answer (IsErr result) }
+    ensures raised { OnErr answer (faults.new ≡ one_more faults.old) }
+    ensures cause { HasCause faults.old faults.new (IsErr result) }
+{
+    match answer {
+        Ok(count) => Ok(count),
+        Err(_) => {
+            *faults = faults.saturating_add(1);
+            Err(Failed)
         }
     }
 }

@@ -86,6 +86,11 @@ fn over_std(rt: HostRuntime) -> Result<(), Fail> {
     assert_eq!(rt; sink.put(text.as_slice()), Ok(()));
     assert_eq!(rt; sink.put(b"f"), Ok(()));
     assert_eq!(rt; held.as_slice(), b"abcdef".as_slice());
+    let long = vec![in alloc; 7u8; 100000]?;
+    let mut all = Vec::new(alloc);
+    let mut sink = StdSink::new(&mut all);
+    assert_eq!(rt; sink.put(long.as_slice()), Ok(()));
+    assert_eq!(rt; all.len(), 100000);
     let mut room = [0u8; 3];
     let mut full = StdSink::new(room.as_mut_slice());
     assert_eq!(rt; full.put(b"abcde"), Err(Outage::Failed));

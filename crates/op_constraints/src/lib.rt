@@ -29,6 +29,9 @@ pub use walks::Walk;
 /// The most variables of a problem, the most constraints of one variable, and the most members of one constraint.
 pub const VAR_LIMIT: usize = 200_000;
 
+// The limit's value, as a fact that the check proves.
+const _: () = prove!(VAR_LIMIT == 200_000);
+
 /// A variable, by its number.
 #[derive(Clone, Copy, Debug, PartialEq, Eq)]
 pub struct VarId(pub u32);

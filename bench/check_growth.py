@@ -92,8 +92,9 @@ def table(title, words, paths):
         before = (size, seconds)
 
 
-work.mkdir(parents=True, exist_ok=True)
-channels = [of_one_channel(count) for count in (1000, 4000, 16000)]
-table("check, packages", ["check", "@"], [of_packages(size) for size in (1, 4, 16, 60)])
-table("check, one channel", ["check", "@"], channels)
-table("graph, one channel", ["graph", "@", "p", "s"], channels)
+if __name__ == "__main__":
+    work.mkdir(parents=True, exist_ok=True)
+    channels = [of_one_channel(count) for count in (1000, 4000, 16000)]
+    table("check, packages", ["check", "@"], [of_packages(size) for size in (1, 4, 16, 60)])
+    table("check, one channel", ["check", "@"], channels)
+    table("graph, one channel", ["graph", "@", "p", "s"], channels)

@@ -1,5 +1,5 @@
 // A folder of the system.
-ghost use Rattle.std.specs.Prelude.{◌≡◌, ◌≢◌, ℕ, List, true, nat_eq, IfOk, OnOk, OnErr, Err, IsErrOf};
+ghost use Rattle.std.specs.Prelude.{◌≡◌, ◌≢◌, ℕ, List, true, nat_eq, IfOk, Err, IsErrOf};
 ghost use Rattle.std.specs.List.{list_all, starts_with};
 ghost use Rattle.olm_base.specs.Outcome.{Gives};
 ghost use Rattle.olm_folder.specs.Files.{AreBelow, bytes_at, is_below};
@@ -122,7 +122,7 @@ impl<R: Files + AllocGlobal + Clone + Drop> Folder for StdFolder<R> {
     fn paths(&mut self, alloc: Global, under: &Text) -> Result<Many<Text>, FolderFault>
         ensures paths { IfOk result (λ paths. (files : List (List ℕ × List ℕ)) × AreBelow under.now files paths) }
         ensures limit { (limit : ℕ) → result ≢ Err (FolderFault.TooLong limit) }
-        ensures ok { OnOk result (self.new.faults ≡ self.old.faults) }
+        ensures others { result ≢ Err FolderFault.Failed → self.new.faults ≡ self.old.faults }
         ensures failed { IsErrOf result FolderFault.Failed → self.new.faults ≡ one_more self.old.faults }
         ensures cause { HasCause self.old.faults self.new.faults (IsErrOf result FolderFault.Failed) }
     {
@@ -139,7 +139,7 @@ impl<R: Files + AllocGlobal + Clone + Drop> Folder for StdFolder<R> {
     /// Reads no more than one byte past the limit.
     fn read(&mut self, alloc: Global, path: &Text, limit: u64) -> Result<Bytes, FolderFault>
         ensures bytes { (files : List (List ℕ × List ℕ)) × Gives is_free (whole limit (bytes_at path.now files)) result }
-        ensures ok { OnOk result (self.new.faults ≡ self.old.faults) }
+        ensures others { result ≢ Err FolderFault.Failed → self.new.faults ≡ self.old.faults }
         ensures failed { IsErrOf result FolderFault.Failed → self.new.faults ≡ one_more self.old.faults }
         ensures cause { HasCause self.old.faults self.new.faults (IsErrOf result FolderFault.Failed) }
     {

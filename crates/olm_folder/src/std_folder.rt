@@ -12,6 +12,7 @@ use olm_base::{Bytes, Many, Text};
 use olm_io::{FolderFault, StdSource, read_all};
 use std::alloc::Global;
 use std::fs::{DirEntry, Files};
+use std::io::ErrorKind;
 use std::{fs, io};
 
 /// A folder of the system, with a count of the system's errors. A path is the system's, from the directory that
@@ -126,9 +127,15 @@ impl<R: Files + AllocGlobal + Clone + Drop> Folder for StdFolder<R> {
         ensures failed { IsErrOf result FolderFault.Failed → self.new.faults ≡ one_more self.old.faults }
         ensures cause { HasCause self.old.faults self.new.faults (IsErrOf result FolderFault.Failed) }
     {
-        let Ok(mut found) = find_files(&self.files, alloc, under) else {
-            self.faults = self.faults.saturating_add(1);
-            return Err(FolderFault::Failed);
+        let mut found = match find_files(&self.files, alloc, under) {
+            Ok(found) => found,
+            Err(fault) if fault.kind() == ErrorKind::OutOfMemory => {
+                return Err(FolderFault::Memory);
+            }
+            Err(_) => {
+                self.faults = self.faults.saturating_add(1);
+                return Err(FolderFault::Failed);
+            }
         };
         match found.sort() {
             Ok(()) => Ok(Many::from_vec(found)),

@@ -104,8 +104,10 @@ fn read_file<R: Files>(
 ) -> Result<Bytes, FolderFault>
     ensures { (files : List (List ℕ × List ℕ)) × Gives is_free (whole limit (bytes_at path.now files)) result }
 {
-    let Ok(file) = fs::open(files, path.as_str()) else {
-        return Err(FolderFault::Failed);
+    let file = match fs::open(files, path.as_str()) {
+        Ok(file) => file,
+        Err(fault) if fault.kind() == ErrorKind::OutOfMemory => return Err(FolderFault::Memory),
+        Err(_) => return Err(FolderFault::Failed),
     };
     let mut source = StdSource::new(file);
     read_all(alloc, &mut source, limit)

@@ -4,3 +4,4 @@ pub mod Forms
 pub mod Joining
 pub mod Along
 pub mod Listing
+pub mod OneListing

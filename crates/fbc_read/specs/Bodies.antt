@@ -101,3 +101,15 @@ IsBody held under limit wanted = (files : List (List ℕ × List ℕ)) × AreLis
 abbrev pub GivesBody : Option (List (List ℕ × List ℕ)) → List ℕ → ℕ → Result (List ℕ) BodyFault → Type 0
 GivesBody held under limit (Ok text) = IsBody held under limit (Ok text)
 GivesBody held under limit (Err fault) = is_free fault ≡ false → IsBody held under limit (Err fault)
+
+-- A folder that tells what it holds has one list of files below a path.
+abbrev pub HasOneListing : List (List ℕ × List ℕ) → List ℕ → Type 0
+HasOneListing told under =
+    (files : List (List ℕ × List ℕ)) × AreListed (Some told) under files
+    × ((others : List (List ℕ × List ℕ)) → AreListed (Some told) under others → others ≡ files)
+
+-- So it gives one body under a limit.
+abbrev pub HasOneBody : List (List ℕ × List ℕ) → List ℕ → ℕ → Type 0
+HasOneBody told under limit =
+    (wanted : Result (List ℕ) BodyFault) × IsBody (Some told) under limit wanted
+    × ((other : Result (List ℕ) BodyFault) → IsBody (Some told) under limit other → other ≡ wanted)

@@ -119,7 +119,7 @@ fn what_a_folder_gives(rt: HostRuntime) -> Result<(), Fail> {
     Ok(())
 }
 
-// The calls are the listing, and one for each file that is read.
+// The calls are the listing, and one for each file that is read. None is read where a path is refused.
 #[test]
 fn each_call_fails_in_turn(rt: HostRuntime) -> Result<(), Fail> {
     let alloc = rt.alloc();
@@ -147,7 +147,7 @@ fn each_call_fails_in_turn(rt: HostRuntime) -> Result<(), Fail> {
     let text = catalog_body(alloc, &mut sure, &under)?;
     assert_eq!(rt; text.as_slice(), b"{}\n{}\n".as_slice());
     let mut folder = MemFolder::new(
-        files(alloc, &[("x/y.yaml", "")])?,
+        files(alloc, &[("x/a.json", "{}"), ("x/y.yaml", "")])?,
         Many::from_vec(vec![in alloc; 1]?),
     );
     let path = Text::from_str(alloc, "x/y.yaml")?;

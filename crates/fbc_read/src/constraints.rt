@@ -1,5 +1,5 @@
 // Constraints: tests of a bundle, in which others may nest.
-ghost use Rattle.std.specs.Prelude.{◌≡◌, ℕ, ◌+◌, ◌≤◌, Some, IfOk, map, filter};
+ghost use Rattle.std.specs.Prelude.{◌≡◌, Some, map, filter};
 ghost use Rattle.serde_json.specs.View.{view};
 ghost use Rattle.olm_base.specs.Outcome.{Gives};
 ghost use Rattle.json_fields.specs.Faults.{is_free};

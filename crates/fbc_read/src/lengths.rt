@@ -1,5 +1,5 @@
 // The lists of a catalog, made longer and cut back.
-ghost use Rattle.std.specs.Prelude.{◌≡◌, ◌++◌, ◌∷◌, [], OnOk, OnErr, take, length};
+ghost use Rattle.std.specs.Prelude.{◌≡◌, ◌++◌, OnOk, OnErr, take, length};
 ghost use Rattle.fbc_read.specs.Lengths as spec;
 
 use fbc_types::Catalog;

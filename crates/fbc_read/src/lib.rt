@@ -16,7 +16,7 @@ mod reading;
 mod schemas;
 
 pub use bodies::{BodyFault, INPUT_LIMIT, catalog_body};
-pub use laws::{constraint_law, reading_law};
+pub use laws::{constraint_law, folder_law, reading_law};
 pub use reading::{ReadFault, read_catalog};
 
 #[cfg(test)]

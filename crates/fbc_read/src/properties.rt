@@ -4,7 +4,7 @@ ghost use Rattle.serde_json.specs.View.{view};
 ghost use Rattle.fbc_types.specs.declared.property.Property.TheVariants as property;
 ghost use Rattle.olm_base.specs.Outcome.{Gives};
 ghost use Rattle.json_fields.specs.Faults.{is_free, and_then};
-ghost use Rattle.json_fields.specs.Values.{each, at, as_present};
+ghost use Rattle.json_fields.specs.Values.{each};
 ghost use Rattle.fbc_read.specs.Properties as spec;
 
 use crate::constraints::constraint;

@@ -1,5 +1,5 @@
 // What a list of files answers.
-ghost use Rattle.std.specs.Prelude.{◌≡◌, ◌≢◌, ◌++◌, IfOk, Err};
+ghost use Rattle.std.specs.Prelude.{◌≡◌, ◌≢◌, IfOk, Err};
 ghost use Rattle.olm_base.specs.Outcome.{Gives};
 ghost use Rattle.olm_folder.specs.Files as spec;
 ghost use Rattle.olm_io.specs.ReadAll.{is_free, whole};

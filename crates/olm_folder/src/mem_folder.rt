@@ -1,5 +1,5 @@
 // A folder in memory, of which some calls fail.
-ghost use Rattle.std.specs.Prelude.{◌≡◌, ◌≢◌, ◌↔◌, List, ℕ, Some, true, IfOk, OnOk, Err, IsErr, IsErrOf};
+ghost use Rattle.std.specs.Prelude.{◌≡◌, ◌≢◌, ◌↔◌, ℕ, Some, true, IfOk, OnOk, Err, IsErrOf};
 ghost use Rattle.olm_base.specs.Outcome.{Gives};
 ghost use Rattle.olm_folder.specs.Files.{AreBelow, bytes_at};
 ghost use Rattle.olm_io.specs.InMemory.{is_listed};

@@ -1,5 +1,5 @@
 // A folder of the system.
-ghost use Rattle.std.specs.Prelude.{◌≡◌, ◌≢◌, ℕ, List, true, nat_eq, IfOk, OnOk, OnErr, Err, IsErrOf};
+ghost use Rattle.std.specs.Prelude.{◌≡◌, ◌≢◌, ℕ, List, true, nat_eq, IfOk, Err, IsErrOf};
 ghost use Rattle.std.specs.List.{list_all, starts_with};
 ghost use Rattle.olm_base.specs.Outcome.{Gives};
 ghost use Rattle.olm_folder.specs.Files.{AreBelow, bytes_at, is_below};
@@ -12,6 +12,7 @@ use olm_base::{Bytes, Many, Text};
 use olm_io::{FolderFault, StdSource, read_all};
 use std::alloc::Global;
 use std::fs::{DirEntry, Files};
+use std::io::ErrorKind;
 use std::{fs, io};
 
 /// A folder of the system, with a count of the system's errors. A path is the system's, from the directory that
@@ -103,8 +104,10 @@ fn read_file<R: Files>(
 ) -> Result<Bytes, FolderFault>
     ensures { (files : List (List ℕ × List ℕ)) × Gives is_free (whole limit (bytes_at path.now files)) result }
 {
-    let Ok(file) = fs::open(files, path.as_str()) else {
-        return Err(FolderFault::Failed);
+    let file = match fs::open(files, path.as_str()) {
+        Ok(file) => file,
+        Err(fault) if fault.kind() == ErrorKind::OutOfMemory => return Err(FolderFault::Memory),
+        Err(_) => return Err(FolderFault::Failed),
     };
     let mut source = StdSource::new(file);
     read_all(alloc, &mut source, limit)
@@ -122,13 +125,19 @@ impl<R: Files + AllocGlobal + Clone + Drop> Folder for StdFolder<R> {
     fn paths(&mut self, alloc: Global, under: &Text) -> Result<Many<Text>, FolderFault>
         ensures paths { IfOk result (λ paths. (files : List (List ℕ × List ℕ)) × AreBelow under.now files paths) }
         ensures limit { (limit : ℕ) → result ≢ Err (FolderFault.TooLong limit) }
-        ensures ok { OnOk result (self.new.faults ≡ self.old.faults) }
+        ensures others { result ≢ Err FolderFault.Failed → self.new.faults ≡ self.old.faults }
         ensures failed { IsErrOf result FolderFault.Failed → self.new.faults ≡ one_more self.old.faults }
         ensures cause { HasCause self.old.faults self.new.faults (IsErrOf result FolderFault.Failed) }
     {
-        let Ok(mut found) = find_files(&self.files, alloc, under) else {
-            self.faults = self.faults.saturating_add(1);
-            return Err(FolderFault::Failed);
+        let mut found = match find_files(&self.files, alloc, under) {
+            Ok(found) => found,
+            Err(fault) if fault.kind() == ErrorKind::OutOfMemory => {
+                return Err(FolderFault::Memory);
+            }
+            Err(_) => {
+                self.faults = self.faults.saturating_add(1);
+                return Err(FolderFault::Failed);
+            }
         };
         match found.sort() {
             Ok(()) => Ok(Many::from_vec(found)),
@@ -139,7 +148,7 @@ impl<R: Files + AllocGlobal + Clone + Drop> Folder for StdFolder<R> {
     /// Reads no more than one byte past the limit.
     fn read(&mut self, alloc: Global, path: &Text, limit: u64) -> Result<Bytes, FolderFault>
         ensures bytes { (files : List (List ℕ × List ℕ)) × Gives is_free (whole limit (bytes_at path.now files)) result }
-        ensures ok { OnOk result (self.new.faults ≡ self.old.faults) }
+        ensures others { result ≢ Err FolderFault.Failed → self.new.faults ≡ self.old.faults }
         ensures failed { IsErrOf result FolderFault.Failed → self.new.faults ≡ one_more self.old.faults }
         ensures cause { HasCause self.old.faults self.new.faults (IsErrOf result FolderFault.Failed) }
     {

@@ -1,64 +1,15 @@
 // The upgrades in a channel.
-ghost use Rattle.std.specs.Prelude.{◌≡◌, ◌++◌, OnOk, IfOk, Some, None, true, false};
+ghost use Rattle.std.specs.Prelude.{◌≡◌, IfOk};
 ghost use Rattle.std.specs.List.{flat_map};
-ghost use Rattle.std.specs.Option.{option_map};
-ghost use Rattle.olm_base.specs.Names.{is_name};
-ghost use Rattle.fbc_types.specs.Texts.{is_among};
 ghost use Rattle.catalog_lines.specs.Lines as spec;
 ghost use Rattle.catalog_lines.specs.Nodes as nodes;
 
-use crate::nodes::{Node, nodes_of};
+use crate::nodes::nodes_of;
+use crate::sources::node_lines;
 use fbc_types::CheckedCatalog;
 use olm_base::{Bytes, Memory, Name, NameFault};
 use std::alloc::Global;
-use upgrade_graph::order;
-
-fn is_among(name: &Name, names: &[Name]) -> bool
-    ensures { result ≡ is_among name.now names.now }
-{
-    names.iter().any(|other| name == other)
-}
-
-fn put_source(out: &mut Vec<u8>, name: &Name, other: &Node) -> Result<(), Memory>
-    ensures { OnOk result (out.new.items ≡ out.old.items ++ nodes.source_word name.now other.now) }
-{
-    if is_among(name, other.upgrades.as_slice()) {
-        out.push(b' ')?;
-        out.extend_from_slice(other.name.as_bytes())?;
-    }
-    Ok(())
-}
-
-fn put_sources(out: &mut Vec<u8>, name: &Name, others: &[Node]) -> Result<(), Memory>
-    ensures { OnOk result (out.new.items ≡ out.old.items ++ flat_map (nodes.source_word name.now) others.now) }
-{
-    'others: for other in others {
-        put_source(out, name, other)?;
-    }
-    Ok(())
-}
-
-fn put_node(out: &mut Vec<u8>, all: &[Node], entry: &Node) -> Result<(), Memory>
-    ensures { OnOk result (out.new.items ≡ out.old.items ++ nodes.node_line all.now entry.now) }
-{
-    out.extend_from_slice(entry.name.as_bytes())?;
-    out.push(b' ')?;
-    out.extend_from_slice(entry.version.as_slice())?;
-    out.extend_from_slice(b" <-")?;
-    put_sources(out, &entry.name, all)?;
-    out.push(b'\n')?;
-    Ok(())
-}
-
-fn node_lines(alloc: Global, all: &[Node]) -> Result<Bytes, Memory>
-    ensures { IfOk result (λ lines. lines ≡ flat_map (nodes.node_line all.now) all.now) }
-{
-    let mut out = Vec::new(alloc);
-    'entries: for entry in all {
-        put_node(&mut out, all, entry)?;
-    }
-    Ok(Bytes::from_vec(out))
-}
+use upgrade_graph::{bundles_by_name, entries_in_order};
 
 /// The name that a text is, if it is one.
 fn as_name(alloc: Global, text: &[u8]) -> Result<Option<Name>, Memory>
@@ -71,7 +22,6 @@ fn as_name(alloc: Global, text: &[u8]) -> Result<Option<Name>, Memory>
     }
 }
 
-#[tactic(auto, using(crate::proofs::Printed::node_lines_are))]
 fn lines_of_channel(
     alloc: Global,
     catalog: &CheckedCatalog,
@@ -80,10 +30,12 @@ fn lines_of_channel(
 ) -> Result<Option<Bytes>, Memory>
     ensures { IfOk result (λ lines. lines ≡ spec.channel_lines catalog.now «package».now channel.now) }
 {
-    match order(alloc, catalog, package, channel)? {
-        Some(names) => {
-            let entries = nodes_of(alloc, catalog, package, channel, names.as_slice())?;
-            Ok(Some(node_lines(alloc, entries.as_slice())?))
+    match entries_in_order(alloc, catalog, package, channel)? {
+        Some(entries) => {
+            let table = bundles_by_name(alloc, catalog.catalog().bundles.as_slice(), package)?;
+            let names = entries.names(alloc)?;
+            let all = nodes_of(alloc, &table, &entries, names.as_slice())?;
+            Ok(Some(node_lines(alloc, all.as_slice())?))
         }
         None => Ok(None),
     }
@@ -92,7 +44,9 @@ fn lines_of_channel(
 /// A line for each entry of a channel in channel order: `argo.v2.0.0 2.0.0 <- argo.v1.0.0`, for instance, where
 /// argo.v1.0.0 can be upgraded to argo.v2.0.0. None exactly where the package has no such channel.
 ///
-/// For n entries it takes the time of n calls of `upgrades`, and of n comparisons with each upgrade from each entry.
+/// It puts the entries in their order and the bundles into a table once. For n entries it then asks for each pair of
+/// them whether one takes the other's place, which compares a name with what an entry replaces and skips and a version
+/// with its range, and looks for a name in a set n * n times.
 pub fn graph_lines(
     alloc: Global,
     catalog: &CheckedCatalog,

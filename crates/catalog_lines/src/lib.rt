@@ -6,6 +6,7 @@ mod counts;
 mod faults;
 mod graph;
 mod nodes;
+mod sources;
 
 pub use counts::counts_line;
 pub use faults::fault_lines;

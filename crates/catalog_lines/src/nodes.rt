@@ -1,18 +1,17 @@
 // The entries of a channel, each with its version and its upgrades.
-ghost use Rattle.std.specs.Prelude.{◌≡◌, ◌&&◌, IfOk, map, slice_get};
-ghost use Rattle.std.specs.Option.{option_and_then, option_copied, option_map, option_to_list};
+ghost use Rattle.std.specs.Prelude.{◌≡◌, IfOk, map};
+ghost use Rattle.std.specs.Option.{option_copied, option_map};
 ghost use Rattle.semver.specs.Identifiers.{parts_of};
 ghost use Rattle.version_ranges.specs.Words.{version_of};
-ghost use Rattle.fbc_types.specs.Rules.{is_bundle_of};
-ghost use Rattle.fbc_types.specs.Texts.{same, own_versions, versions_for};
-ghost use Rattle.upgrade_graph.specs.Order as order;
+ghost use Rattle.upgrade_graph.specs.Tables.{under};
 ghost use Rattle.catalog_lines.specs.Nodes as spec;
 
-use fbc_types::{Bundle, CheckedCatalog, Property};
+use fbc_types::Bundle;
 use olm_base::{Many, Memory, Name, Text};
 use semver::{Error, Version};
 use std::alloc::{AllocError, Global};
-use upgrade_graph::upgrades;
+use std::collections::BTreeMap;
+use upgrade_graph::{ChannelOrder, own_version};
 
 /// An entry of a channel: its name, the text of its version, and the names of the channel that it can be upgraded to.
 #[derive(Debug, Drop)]
@@ -22,50 +21,11 @@ pub(crate) struct Node {
     pub upgrades: Many<Name>,
 }
 
-fn is_bundle(bundle: &Bundle, owner: &Name, name: &Name) -> bool
-    ensures { result ≡ (is_bundle_of owner.now bundle.now && same bundle.now.name name.now) }
+/// The first version that the bundle of this name gives for its package.
+fn version_text<'a>(table: &BTreeMap<Name, &'a Bundle>, name: &Name) -> Option<&'a Text>
+    ensures { option_copied result ≡ spec.text_named (under table.now.entries) name.now }
 {
-    bundle.package == *owner && bundle.name == *name
-}
-
-fn bundle_named<'a>(bundles: &'a [Bundle], owner: &Name, name: &Name) -> Option<&'a Bundle>
-    ensures { option_copied result ≡ order.bundle_named bundles.now owner.now name.now }
-{
-    bundles.iter().find(|bundle| is_bundle(bundle, owner, name))
-}
-
-/// The version that a property gives for this package.
-fn version_for<'a>(owner: &Name, property: &'a Property) -> Option<&'a Text>
-    ensures { option_to_list (option_copied result) ≡ versions_for owner.now property.now }
-{
-    match property {
-        Property::Package { name, version } => { if name == owner { Some(version) } else { None } }
-        Property::Kind(_) => None,
-        Property::NeedKind(_) => None,
-        Property::NeedPackage { .. } => None,
-        Property::Constraint(_) => None,
-        Property::Manifest { .. } => None,
-        Property::Other { .. } => None,
-    }
-}
-
-/// The first version that a bundle gives for its package.
-fn own_version(bundle: &Bundle) -> Option<&Text>
-    ensures { option_copied result ≡ slice_get (own_versions bundle.now) 0 }
-{
-    for property in bundle.properties.as_slice() {
-        if let Some(version) = version_for(&bundle.package, property) {
-            return Some(version);
-        }
-    }
-    None
-}
-
-/// The first version that the bundle of this package and name gives for its package.
-fn version_text<'a>(bundles: &'a [Bundle], owner: &Name, name: &Name) -> Option<&'a Text>
-    ensures { option_copied result ≡ spec.text_named bundles.now owner.now name.now }
-{
-    match bundle_named(bundles, owner, name) {
+    match table.get(name).copied() {
         Some(bundle) => own_version(bundle),
         None => None,
     }
@@ -90,34 +50,31 @@ fn read_version(alloc: Global, text: &str) -> Result<Option<Version>, Memory>
 /// The upgrades from the entry of a name and the text of its version.
 fn upgrades_at(
     alloc: Global,
-    catalog: &CheckedCatalog,
-    owner: &Name,
-    channel: &Name,
+    entries: &ChannelOrder<'_>,
     name: &Name,
     version: &Text,
 ) -> Result<Many<Name>, Memory>
-    ensures { IfOk result (λ found. found ≡ spec.upgrades_at catalog.now owner.now channel.now name.now version.now) }
+    ensures { IfOk result (λ found. found ≡ spec.upgrades_at entries.now name.now version.now) }
 {
     match read_version(alloc, version.as_str())? {
-        Some(version) => upgrades(alloc, catalog, owner, channel, name, &version),
+        Some(version) => entries.upgrades(alloc, name, &version),
         None => Ok(Many::new(alloc)),
     }
 }
 
 fn node_of(
     alloc: Global,
-    catalog: &CheckedCatalog,
-    owner: &Name,
-    channel: &Name,
+    table: &BTreeMap<Name, &Bundle>,
+    entries: &ChannelOrder<'_>,
     name: &Name,
 ) -> Result<Node, Memory>
-    ensures { IfOk result (λ found. found ≡ spec.node catalog.now owner.now channel.now name.now) }
+    ensures { IfOk result (λ found. found ≡ spec.node (under table.now.entries) entries.now name.now) }
 {
-    match version_text(catalog.catalog().bundles.as_slice(), owner, name) {
+    match version_text(table, name) {
         Some(version) => Ok(Node {
             name: name.clone()?,
             version: version.clone()?,
-            upgrades: upgrades_at(alloc, catalog, owner, channel, name, version)?,
+            upgrades: upgrades_at(alloc, entries, name, version)?,
         }),
         None => Ok(Node {
             name: name.clone()?,
@@ -127,19 +84,18 @@ fn node_of(
     }
 }
 
-/// The entries of these names.
+/// The entries of these names, by a table of the bundles and the channel's entries in their order.
 pub(crate) fn nodes_of(
     alloc: Global,
-    catalog: &CheckedCatalog,
-    owner: &Name,
-    channel: &Name,
+    table: &BTreeMap<Name, &Bundle>,
+    entries: &ChannelOrder<'_>,
     names: &[Name],
 ) -> Result<Vec<Node>, Memory>
-    ensures { IfOk result (λ found. found.items ≡ map (spec.node catalog.now owner.now channel.now) names.now) }
+    ensures { IfOk result (λ found. found.items ≡ map (spec.node (under table.now.entries) entries.now) names.now) }
 {
     let mut found = Vec::new(alloc);
     'names: for name in names {
-        found.push(node_of(alloc, catalog, owner, channel, name)?)?;
+        found.push(node_of(alloc, table, entries, name)?)?;
     }
     Ok(found)
 }

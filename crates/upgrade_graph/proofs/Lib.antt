@@ -6,6 +6,7 @@ mod Ranked
 mod Checked
 mod Ordered
 mod Nearer
+pub mod Placing
 mod Once
 mod Positions
 mod Following

@@ -3,5 +3,6 @@ pub mod Order
 pub mod Ranks
 pub mod Tables
 pub mod Upgrades
+pub mod Placed
 pub mod Laws
 pub mod Example

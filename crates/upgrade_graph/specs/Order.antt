@@ -63,6 +63,10 @@ unfoldable pub in_order : List Bundle → Channel → List Entry
 in_order bundles channel =
     main_chain channel.entries ++ sorted (is_before bundles channel.«package») (off_chain channel.entries)
 
+-- The entries of the channel of this package and name in channel order, where there is such a channel.
+abbrev pub ordered : Catalog → List ℕ → List ℕ → Option (List Entry)
+ordered catalog owner name = option_map (in_order catalog.bundles) (channel_named catalog.channels owner name)
+
 abbrev pub names : List Entry → List (List ℕ)
 names entries = map (λ entry. entry.name) entries
 

@@ -1,96 +1,106 @@
 // What an installed bundle can be upgraded to.
-ghost use Rattle.std.specs.Prelude.{◌≡◌, true, map, All, IfOk};
-ghost use Rattle.std.specs.Option.{option_copied, option_map_or};
+ghost use Rattle.std.specs.Prelude.{◌≡◌, false, map, All, IfOk};
+ghost use Rattle.std.specs.Option.{option_map_or};
 ghost use Rattle.semver.specs.Identifiers.{parts_of};
-ghost use Rattle.version_ranges.specs.Reading.{reading};
-ghost use Rattle.fbc_types.specs.Texts.{is_range};
-ghost use Rattle.upgrade_graph.specs.Order.{in_order, names};
-ghost use Rattle.upgrade_graph.specs.Ranks.{HasVersions};
+ghost use Rattle.version_ranges.specs.Conditions.{holds_of};
+ghost use Rattle.upgrade_graph.specs.Order.{names};
+ghost use Rattle.upgrade_graph.specs.Placed.{entry_of, IsPlaced};
 ghost use Rattle.upgrade_graph.specs.Upgrades as spec;
 
 use crate::chain::takes_over;
-use crate::channel_order::{channel_named, in_order};
-use fbc_types::{Bundle, Channel, CheckedCatalog, Entry, bundles_are_read, entries_are_bundles};
+use crate::placed::{ChannelOrder, Placed, entries_in_order};
+use fbc_types::CheckedCatalog;
 use olm_base::{Many, Memory, Name};
 use semver::Version;
 use std::alloc::Global;
 use version_ranges::Range;
 
-/// Whether the version is in the range that a text writes. The only error is want of memory, since the text
-/// writes one.
-fn is_within(alloc: Global, text: &str, version: &Version) -> Result<bool, Memory>
-    requires { is_range text.now ≡ true }
-    ensures { IfOk result (λ within. within ≡ spec.is_in (parts_of version.now) (reading text.now)) }
+fn is_within(range: &Option<Range>, version: &Version) -> bool
+    ensures { result ≡ option_map_or (λ terms. holds_of terms (parts_of version.now)) range.now false }
 {
-    match Range::parse(alloc, text) {
-        Ok(range) => Ok(range.holds(version)),
-        Err(_) => Err(Memory),
+    match range {
+        Some(range) => range.holds(version),
+        None => false,
     }
 }
 
-fn skips_version(alloc: Global, entry: &Entry, version: &Version) -> Result<bool, Memory>
-    requires { option_map_or is_range entry.now.skip_range true ≡ true }
-    ensures { IfOk result (λ skips. skips ≡ spec.skips_version (parts_of version.now) entry.now) }
+fn skips_version(placed: &Placed<'_>, version: &Version) -> bool
+    requires { IsPlaced placed.now }
+    ensures { result ≡ spec.skips_version (parts_of version.now) placed.now.entry.now }
 {
-    match &entry.skip_range {
-        Some(text) => is_within(alloc, text.as_str(), version),
-        None => Ok(false),
-    }
+    is_within(&placed.range, version)
 }
 
-fn takes_place(alloc: Global, entry: &Entry, name: &Name, version: &Version) -> Result<bool, Memory>
-    requires { option_map_or is_range entry.now.skip_range true ≡ true }
-    ensures { IfOk result (λ takes. takes ≡ spec.takes_place name.now (parts_of version.now) entry.now) }
+fn takes_place(placed: &Placed<'_>, name: &Name, version: &Version) -> bool
+    requires { IsPlaced placed.now }
+    ensures { result ≡ spec.takes_place name.now (parts_of version.now) placed.now.entry.now }
 {
-    if takes_over(name, entry) {
-        return Ok(true);
-    }
-    skips_version(alloc, entry, version)
+    takes_over(name, placed.entry) || skips_version(placed, version)
 }
 
 /// The names of the upgrades among the entries of a channel, which stand in channel order.
 fn upgrades_among(
     alloc: Global,
-    entries: &[&Entry],
+    entries: &[Placed<'_>],
     name: &Name,
     version: &Version,
 ) -> Result<Vec<Name>, Memory>
-    requires { All (λ entry. option_map_or is_range entry.now.skip_range true ≡ true) entries.now }
-    ensures { IfOk result (λ found. found.items ≡ names (spec.upgrades_among (map (λ entry. entry.now) entries.now) name.now (parts_of version.now))) }
+    requires { All IsPlaced entries.now }
+    ensures { IfOk result (λ found. found.items ≡ names (spec.upgrades_among (map entry_of entries.now) name.now (parts_of version.now))) }
 {
     let mut found = Vec::new(alloc);
-    for entry in entries {
-        if entry.name == *name {
+    for placed in entries {
+        if placed.entry.name == *name {
             break;
         }
-        if !takes_place(alloc, entry, name, version)? {
+        if !takes_place(placed, name, version) {
             continue;
         }
-        found.push(entry.name.clone()?)?;
+        found.push(placed.entry.name.clone()?)?;
     }
     Ok(found)
 }
 
-fn upgrades_in(
-    alloc: Global,
-    bundles: &[Bundle],
-    channel: &Channel,
-    name: &Name,
-    version: &Version,
-) -> Result<Vec<Name>, Memory>
-    requires versions { HasVersions bundles.now channel.now.«package» channel.now.entries }
-    requires ranges { All (λ entry. option_map_or is_range entry.skip_range true ≡ true) channel.now.entries }
-    ensures { IfOk result (λ found. found.items ≡ names (spec.upgrades_among (in_order bundles.now channel.now) name.now (parts_of version.now))) }
+fn names_of(alloc: Global, entries: &[Placed<'_>]) -> Result<Vec<Name>, Memory>
+    ensures { IfOk result (λ found. found.items ≡ names (map entry_of entries.now)) }
 {
-    let entries = in_order(alloc, bundles, channel)?;
-    upgrades_among(alloc, entries.as_slice(), name, version)
+    let mut found = Vec::new(alloc);
+    for placed in entries {
+        found.push(placed.entry.name.clone()?)?;
+    }
+    Ok(found)
+}
+
+impl<'a> ChannelOrder<'a> {
+    /// The names of these entries.
+    pub fn names(&self, alloc: Global) -> Result<Many<Name>, Memory>
+        ensures { IfOk result (λ found. found ≡ names self.now) }
+    {
+        let found = names_of(alloc, self.entries.as_slice())?;
+        Ok(Many::from_vec(found))
+    }
+
+    /// The names of the upgrades among these entries from the installed bundle of a name and a version, as `upgrades`
+    /// has them. It compares the name with what each entry before the installed bundle replaces and skips.
+    pub fn upgrades(
+        &self,
+        alloc: Global,
+        from: &Name,
+        version: &Version,
+    ) -> Result<Many<Name>, Memory>
+        ensures { IfOk result (λ found. found ≡ names (spec.upgrades_among self.now from.now (parts_of version.now))) }
+    {
+        let found = upgrades_among(alloc, self.entries.as_slice(), from, version)?;
+        Ok(Many::from_vec(found))
+    }
 }
 
 /// The names of the upgrades in a channel from the installed bundle of a name and a version, in channel order: the
 /// entries that replace it, skip it, or have its version in their `skipRange`, and that stand before it where it is
 /// in the channel. The channel needn't have it. There are none where the package has no such channel.
 ///
-/// It takes the time of `order`, and reads each `skipRange` before the installed bundle once.
+/// It takes the time of `order`, and reads each `skipRange` once.
+#[tactic(auto, using(crate::proofs::Placing::upgrades_are))]
 pub fn upgrades(
     alloc: Global,
     catalog: &CheckedCatalog,
@@ -101,14 +111,8 @@ pub fn upgrades(
 ) -> Result<Many<Name>, Memory>
     ensures { IfOk result (λ found. found ≡ spec.upgrades catalog.now «package».now channel.now from.now (parts_of version.now)) }
 {
-    bundles_are_read();
-    entries_are_bundles();
-    let catalog = catalog.catalog();
-    match channel_named(catalog.channels.as_slice(), package, channel) {
-        Some(channel) => {
-            let bundles = catalog.bundles.as_slice();
-            Ok(Many::from_vec(upgrades_in(alloc, bundles, channel, from, version)?))
-        }
+    match entries_in_order(alloc, catalog, package, channel)? {
+        Some(entries) => entries.upgrades(alloc, from, version),
         None => Ok(Many::new(alloc)),
     }
 }

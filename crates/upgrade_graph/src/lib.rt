@@ -10,6 +10,7 @@ mod chain;
 mod channel_order;
 mod installed;
 mod laws;
+mod placed;
 mod ranking;
 mod tables;
 mod versions;
@@ -21,6 +22,9 @@ pub use laws::{
     heads_come_first, orders_list_all, others_are_sorted, replacing_comes_first,
     upgrades_never_come_back, upgrades_stand_before,
 };
+pub use placed::{ChannelOrder, entries_in_order};
+pub use tables::bundles_by_name;
+pub use versions::own_version;
 
 #[cfg(test)]
 mod tests;

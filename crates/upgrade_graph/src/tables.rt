@@ -43,7 +43,7 @@ pub(crate) fn entries_by_name(
 }
 
 /// The first bundle of each name in this package.
-pub(crate) fn bundles_by_name<'a>(
+pub fn bundles_by_name<'a>(
     alloc: Global,
     bundles: &'a [Bundle],
     owner: &Name,

@@ -28,8 +28,8 @@ fn version_for<'a>(owner: &Name, property: &'a Property) -> Option<&'a Text>
     }
 }
 
-/// The first version that a bundle gives for its package.
-fn own_version(bundle: &Bundle) -> Option<&Text>
+/// The text of the first version that a bundle gives for its package. In a catalog that breaks no rule it gives one.
+pub fn own_version(bundle: &Bundle) -> Option<&Text>
     ensures { option_copied result ≡ slice_get (own_versions bundle.now) 0 }
 {
     for property in bundle.properties.as_slice() {

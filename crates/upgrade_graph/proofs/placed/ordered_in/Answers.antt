@@ -6,13 +6,13 @@ use Rattle.fbc_types.specs.Texts.{is_range}
 use Rattle.fbc_types.specs.declared.catalog.Entry.{Entry}
 use Rattle.upgrade_graph.proofs.Lists.{all_seen}
 use Rattle.upgrade_graph.proofs.Ordered.{in_order_all}
-use Rattle.upgrade_graph.proofs.installed.upgrades_in.Goals as goal
+use Rattle.upgrade_graph.proofs.placed.ordered_in.Goals as goal
 
 abbrev HasRange : Entry → Type 0
 HasRange entry = option_map_or is_range entry.skip_range true ≡ true
 
-pub upgrades_among-requires : goal.upgrades_among-requires
-upgrades_among-requires c =
+pub place_all-requires : goal.place_all-requires
+place_all-requires c =
     let same = ap (map (λ (entry : Bor Entry). entry.now)) c.as_slice.ensures.value ∙ c.in_ok-entries.ensures in
     all_seen HasRange (λ (entry : Bor Entry). entry.now) c.as_slice.result.now
     (subst (All HasRange) (sym same) (in_order_all HasRange c.args.bundles.now c.args.channel.now c.requires.ranges))

@@ -40,6 +40,7 @@ impl<T: Copy + Drop> ByVariable<T> {
     pub(crate) fn list(&self, var: VarId) -> Option<&[T]>
         ensures some { IfSome result (λ list. list.now ≡ list_of self.now var) }
         ensures within { IfSome result (λ list. var < length self.now) }
+        ensures none { IfNone result (length self.now ≤ var) }
     {
         let index = var.0 as usize;
         if index < self.lists.len() {

@@ -43,10 +43,38 @@ const NOT_CONSTRAINT: &[u8] =
 {\"schema\":\"olm.bundle\",\"package\":\"db\",\"name\":\"db.v1.0.0\",\"image\":\"q\",\"properties\":[{\"type\":\"olm.package\",\"value\":{\"packageName\":\"db\",\"version\":\"1.0.0\"}}]}
 ";
 
+/// Each newer version needs the next package, and the newest of the last one needs what isn't there.
+const CHAIN: &[u8] = b"{\"schema\":\"olm.package\",\"name\":\"a\",\"defaultChannel\":\"s\"}
+{\"schema\":\"olm.channel\",\"package\":\"a\",\"name\":\"s\",\"entries\":[{\"name\":\"a.v2.0.0\",\"replaces\":\"a.v1.0.0\"},{\"name\":\"a.v1.0.0\"}]}
+{\"schema\":\"olm.bundle\",\"package\":\"a\",\"name\":\"a.v2.0.0\",\"image\":\"q\",\"properties\":[{\"type\":\"olm.package\",\"value\":{\"packageName\":\"a\",\"version\":\"2.0.0\"}},{\"type\":\"olm.package.required\",\"value\":{\"packageName\":\"b\",\"versionRange\":\">=1.0.0\"}}]}
+{\"schema\":\"olm.bundle\",\"package\":\"a\",\"name\":\"a.v1.0.0\",\"image\":\"q\",\"properties\":[{\"type\":\"olm.package\",\"value\":{\"packageName\":\"a\",\"version\":\"1.0.0\"}}]}
+{\"schema\":\"olm.package\",\"name\":\"b\",\"defaultChannel\":\"s\"}
+{\"schema\":\"olm.channel\",\"package\":\"b\",\"name\":\"s\",\"entries\":[{\"name\":\"b.v2.0.0\",\"replaces\":\"b.v1.0.0\"},{\"name\":\"b.v1.0.0\"}]}
+{\"schema\":\"olm.bundle\",\"package\":\"b\",\"name\":\"b.v2.0.0\",\"image\":\"q\",\"properties\":[{\"type\":\"olm.package\",\"value\":{\"packageName\":\"b\",\"version\":\"2.0.0\"}},{\"type\":\"olm.package.required\",\"value\":{\"packageName\":\"c\",\"versionRange\":\">=2.0.0\"}}]}
+{\"schema\":\"olm.bundle\",\"package\":\"b\",\"name\":\"b.v1.0.0\",\"image\":\"q\",\"properties\":[{\"type\":\"olm.package\",\"value\":{\"packageName\":\"b\",\"version\":\"1.0.0\"}},{\"type\":\"olm.package.required\",\"value\":{\"packageName\":\"c\",\"versionRange\":\">=1.0.0\"}}]}
+{\"schema\":\"olm.package\",\"name\":\"c\",\"defaultChannel\":\"s\"}
+{\"schema\":\"olm.channel\",\"package\":\"c\",\"name\":\"s\",\"entries\":[{\"name\":\"c.v2.0.0\",\"replaces\":\"c.v1.0.0\"},{\"name\":\"c.v1.0.0\"}]}
+{\"schema\":\"olm.bundle\",\"package\":\"c\",\"name\":\"c.v2.0.0\",\"image\":\"q\",\"properties\":[{\"type\":\"olm.package\",\"value\":{\"packageName\":\"c\",\"version\":\"2.0.0\"}},{\"type\":\"olm.package.required\",\"value\":{\"packageName\":\"d\",\"versionRange\":\">=1.0.0\"}}]}
+{\"schema\":\"olm.bundle\",\"package\":\"c\",\"name\":\"c.v1.0.0\",\"image\":\"q\",\"properties\":[{\"type\":\"olm.package\",\"value\":{\"packageName\":\"c\",\"version\":\"1.0.0\"}}]}
+";
+
+/// The head needs two packages that give one kind.
+const KIND_CLASH: &[u8] = b"{\"schema\":\"olm.package\",\"name\":\"a\",\"defaultChannel\":\"s\"}
+{\"schema\":\"olm.channel\",\"package\":\"a\",\"name\":\"s\",\"entries\":[{\"name\":\"a.v2.0.0\",\"replaces\":\"a.v1.0.0\"},{\"name\":\"a.v1.0.0\"}]}
+{\"schema\":\"olm.bundle\",\"package\":\"a\",\"name\":\"a.v2.0.0\",\"image\":\"q\",\"properties\":[{\"type\":\"olm.package\",\"value\":{\"packageName\":\"a\",\"version\":\"2.0.0\"}},{\"type\":\"olm.package.required\",\"value\":{\"packageName\":\"b\",\"versionRange\":\">=1.0.0\"}},{\"type\":\"olm.package.required\",\"value\":{\"packageName\":\"c\",\"versionRange\":\">=1.0.0\"}}]}
+{\"schema\":\"olm.bundle\",\"package\":\"a\",\"name\":\"a.v1.0.0\",\"image\":\"q\",\"properties\":[{\"type\":\"olm.package\",\"value\":{\"packageName\":\"a\",\"version\":\"1.0.0\"}},{\"type\":\"olm.package.required\",\"value\":{\"packageName\":\"c\",\"versionRange\":\">=1.0.0\"}}]}
+{\"schema\":\"olm.package\",\"name\":\"b\",\"defaultChannel\":\"s\"}
+{\"schema\":\"olm.channel\",\"package\":\"b\",\"name\":\"s\",\"entries\":[{\"name\":\"b.v1.0.0\"}]}
+{\"schema\":\"olm.bundle\",\"package\":\"b\",\"name\":\"b.v1.0.0\",\"image\":\"q\",\"properties\":[{\"type\":\"olm.package\",\"value\":{\"packageName\":\"b\",\"version\":\"1.0.0\"}},{\"type\":\"olm.gvk\",\"value\":{\"group\":\"g.io\",\"version\":\"v1\",\"kind\":\"Cache\"}}]}
+{\"schema\":\"olm.package\",\"name\":\"c\",\"defaultChannel\":\"s\"}
+{\"schema\":\"olm.channel\",\"package\":\"c\",\"name\":\"s\",\"entries\":[{\"name\":\"c.v1.0.0\"}]}
+{\"schema\":\"olm.bundle\",\"package\":\"c\",\"name\":\"c.v1.0.0\",\"image\":\"q\",\"properties\":[{\"type\":\"olm.package\",\"value\":{\"packageName\":\"c\",\"version\":\"1.0.0\"}},{\"type\":\"olm.gvk\",\"value\":{\"group\":\"g.io\",\"version\":\"v1\",\"kind\":\"Cache\"}}]}
+";
+
 /// Nothing meets the subscription.
 const REFUSED: &[u8] = b"refused\ncertificate 1 refused\nvars 1\nrefute-all -0 : G0.1\nend\n";
 
-const ROWS: [Row; 6] = [
+const ROWS: [Row; 8] = [
     (
         ONE_BUNDLE,
         b"argo",
@@ -67,6 +95,20 @@ const ROWS: [Row; 6] = [
         b"web",
         b"s",
         b"chosen\ntake olm/catalog web s web.v1.0.0 1.0.0\ntake olm/catalog db s db.v1.0.0 1.0.0\ncertificate 1 chosen\nvars 3\nwalk 0 0\nend\n",
+        Decided::Chosen,
+    ),
+    (
+        CHAIN,
+        b"a",
+        b"s",
+        b"chosen\ntake olm/catalog a s a.v2.0.0 2.0.0\ntake olm/catalog b s b.v1.0.0 1.0.0\ntake olm/catalog c s c.v1.0.0 1.0.0\ncertificate 1 chosen\nvars 10\nlemma -0 -1 -3 : G5.0 G3.0\nwalk 0 1 1\nrefute 1 0 -0 -1 -3 : L0\nrefute 2 0 -5 : G5.0\nend\n",
+        Decided::Chosen,
+    ),
+    (
+        KIND_CLASH,
+        b"a",
+        b"s",
+        b"chosen\ntake olm/catalog a s a.v1.0.0 1.0.0\ntake olm/catalog c s c.v1.0.0 1.0.0\ncertificate 1 chosen\nvars 7\nlemma -0 -1 -3 : G6.0(3,4) G1.1\nlemma -0 -1 : L0 G1.0\nwalk 1 0\nrefute 0 0 -0 -1 : L1\nend\n",
         Decided::Chosen,
     ),
     // no channel of this name, and no name

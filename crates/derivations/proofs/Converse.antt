@@ -23,7 +23,7 @@ among-filter p (n ∷ ns) v e =
       | inr other ↦ rw other (among-filter p ns v parts.1)
     ]
 
-distinct-filter : (p : ℕ → Bool) (vs : List ℕ) → is_distinct vs ≡ true → is_distinct (filter p vs) ≡ true
+pub distinct-filter : (p : ℕ → Bool) (vs : List ℕ) → is_distinct vs ≡ true → is_distinct (filter p vs) ≡ true
 distinct-filter p [] d = refl
 distinct-filter p (n ∷ ns) d =
     let parts = and_parts (not (is_among ns n)) (is_distinct ns) d in
@@ -38,7 +38,7 @@ among-take (suc k) [] v e = refl
 among-take (suc k) (n ∷ ns) v e =
     let parts = or_parts (n == v) (is_among ns v) e in or_from (n == v) (is_among (take k ns) v) parts.0 (among-take k ns v parts.1)
 
-distinct-take : (k : ℕ) (vs : List ℕ) → is_distinct vs ≡ true → is_distinct (take k vs) ≡ true
+pub distinct-take : (k : ℕ) (vs : List ℕ) → is_distinct vs ≡ true → is_distinct (take k vs) ≡ true
 distinct-take zero vs d = refl
 distinct-take (suc k) [] d = refl
 distinct-take (suc k) (n ∷ ns) d =
@@ -50,7 +50,7 @@ all-take f zero vs a = refl
 all-take f (suc k) [] a = refl
 all-take f (suc k) (n ∷ ns) a = let parts = and_parts (f n) (list_all f ns) a in and_from (f n) (list_all f (take k ns)) parts.0 (all-take f k ns parts.1)
 
-among_weaker : (m : ℕ) (ms vs : List ℕ) → list_all (λ v. is_among ms v) vs ≡ true → list_all (λ v. is_among (m ∷ ms) v) vs ≡ true
+pub among_weaker : (m : ℕ) (ms vs : List ℕ) → list_all (λ v. is_among ms v) vs ≡ true → list_all (λ v. is_among (m ∷ ms) v) vs ≡ true
 among_weaker m ms [] a = refl
 among_weaker m ms (v ∷ vs) a =
     let parts = and_parts (is_among ms v) (list_all (λ v. is_among ms v) vs) a in
@@ -64,7 +64,7 @@ filter_within p (m ∷ ms) =
       | inr other ↦ rw other (among_weaker m ms (filter p ms) (filter_within p ms))
     ]
 
-filter_all : (p : ℕ → Bool) (ms : List ℕ) → list_all p (filter p ms) ≡ true
+pub filter_all : (p : ℕ → Bool) (ms : List ℕ) → list_all p (filter p ms) ≡ true
 filter_all p [] = refl
 filter_all p (m ∷ ms) =
     elim (cases_Bool (p m)) [

@@ -19,7 +19,7 @@ ok_some : (o : Option (List Lit)) (cause : LogCause) (clause : List Lit) → ok_
 ok_some None cause clause e = absurd (let bad : Err cause ≡ Ok clause = e in cc)
 ok_some (Some x) cause clause e = cc
 
-clause_of-grows : (problem : List (List Constraint)) (earlier more : List (List Lit)) (hint : Hint) (clause : List Lit) → clause_of problem earlier hint ≡ Ok clause → clause_of problem (earlier ++ more) hint ≡ Ok clause
+pub clause_of-grows : (problem : List (List Constraint)) (earlier more : List (List Lit)) (hint : Hint) (clause : List Lit) → clause_of problem earlier hint ≡ Ok clause → clause_of problem (earlier ++ more) hint ≡ Ok clause
 clause_of-grows problem earlier more (LemmaHint number) clause e =
     ap (λ o. ok_or o NoSuchHint) (get_left earlier more number clause (ok_some (slice_get earlier number) NoSuchHint clause e))
 clause_of-grows problem earlier more (Given v place members) clause e = e

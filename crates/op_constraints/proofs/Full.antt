@@ -35,7 +35,7 @@ has_dependency (Dependency ns ∷ cs) (suc k) ms e = inr (has_dependency cs k ms
 has_dependency (Conflict o ∷ cs) (suc k) ms e = has_dependency cs k ms e
 has_dependency (AtMost n ns ∷ cs) (suc k) ms e = has_dependency cs k ms e
 
-has_agenda : (problem : List (List Constraint)) (chosen : List ℕ) (v k : ℕ) (ms : List ℕ) → is_among chosen v ≡ true → constraint_at problem v k ≡ Some (Dependency ms) → HasList ms (agenda problem chosen)
+pub has_agenda : (problem : List (List Constraint)) (chosen : List ℕ) (v k : ℕ) (ms : List ℕ) → is_among chosen v ≡ true → constraint_at problem v k ≡ Some (Dependency ms) → HasList ms (agenda problem chosen)
 has_agenda problem [] v k ms e at = absurd (let bad : false ≡ true = e in cc)
 has_agenda problem (w ∷ ws) v k ms e at =
     elim (or_cases (eqb w v) (is_among ws v) e) [
@@ -44,7 +44,7 @@ has_agenda problem (w ∷ ws) v k ms e at =
       | inr rest ↦ has_right ms (dependencies (constraints_of problem w)) (agenda problem ws) (has_agenda problem ws v k ms rest at)
     ]
 
-all_passed : (set : ℕ → Bool) (lists : List (List ℕ)) (ms : List ℕ) → passed set lists ≡ [] → HasList ms lists → list_any set ms ≡ true
+pub all_passed : (set : ℕ → Bool) (lists : List (List ℕ)) (ms : List ℕ) → passed set lists ≡ [] → HasList ms lists → list_any set ms ≡ true
 all_passed set [] ms e h = absurd h
 all_passed set (ns ∷ lists) ms e h =
     elim (cases_Bool (list_any set ns)) [
@@ -76,12 +76,12 @@ count_within f g (m ∷ ms) h =
 out_too : (f g : ℕ → Bool) (v : ℕ) → ((v : ℕ) → f v ≡ true → g v ≡ true) → not (g v) ≡ true → not (f v) ≡ true
 out_too f g v h e = not_from_false (f v) (false_from_ne_true (f v) (λ i. both_ways (g v) (not-true (g v) e) (h v i)))
 
-any_mandatory : (cs : List Constraint) (k : ℕ) → slice_get cs k ≡ Some Mandatory → list_any is_mandatory cs ≡ true
+pub any_mandatory : (cs : List Constraint) (k : ℕ) → slice_get cs k ≡ Some Mandatory → list_any is_mandatory cs ≡ true
 any_mandatory [] k e = absurd (let bad : None ≡ Some Mandatory = e in cc)
 any_mandatory (c ∷ cs) zero e = or_left (is_mandatory c) (list_any is_mandatory cs) (let same : c ≡ Mandatory = cc in ap is_mandatory same)
 any_mandatory (c ∷ cs) (suc k) e = or_right (is_mandatory c) (list_any is_mandatory cs) (any_mandatory cs k e)
 
-among_mandatory : (n : ℕ) (problem : List (List Constraint)) (i v : ℕ) → v ≡ n + i → list_any is_mandatory (constraints_of problem i) ≡ true → is_among (mandatory_from n problem) v ≡ true
+pub among_mandatory : (n : ℕ) (problem : List (List Constraint)) (i v : ℕ) → v ≡ n + i → list_any is_mandatory (constraints_of problem i) ≡ true → is_among (mandatory_from n problem) v ≡ true
 among_mandatory n [] i v e m = absurd (let bad : false ≡ true = m in cc)
 among_mandatory n (cs ∷ css) zero v e m =
     rw m (or_left (eqb n v) (is_among (mandatory_from (n + 1) css) v) (eq-eqb n v (omega arith)))

@@ -354,7 +354,7 @@ few-in [] place members a e = absurd (let bad : None ≡ Some (Dependency member
 few-in (c ∷ cs) zero members a e = let same : c ≡ Dependency members = cc in subst HasFewMembers same a.0
 few-in (c ∷ cs) (suc k) members a e = few-in cs k members a.1 e
 
-few-of : (problem : List (List Constraint)) (v place : ℕ) (members : List ℕ) → AllByRecursion (λ cs. AllByRecursion HasFewMembers cs) problem → constraint_at problem v place ≡ Some (Dependency members) → length members ≤ VAR_LIMIT
+pub few-of : (problem : List (List Constraint)) (v place : ℕ) (members : List ℕ) → AllByRecursion (λ cs. AllByRecursion HasFewMembers cs) problem → constraint_at problem v place ≡ Some (Dependency members) → length members ≤ VAR_LIMIT
 few-of [] v place members a e = absurd (let bad : None ≡ Some (Dependency members) = e in cc)
 few-of (cs ∷ css) zero place members a e = few-in cs place members a.0 e
 few-of (cs ∷ css) (suc v) place members a e = few-of css v place members a.1 e

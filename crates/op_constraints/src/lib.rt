@@ -24,7 +24,7 @@ use olm_base::Many;
 pub use problems::Problem;
 pub use sets::{VarSet, is_met};
 use std::marker::Model;
-pub use walks::Walk;
+pub use walks::{Walk, mandatory_variables, set_of};
 
 /// The most variables of a problem, the most constraints of one variable, and the most members of one constraint.
 pub const VAR_LIMIT: usize = 200_000;

@@ -51,7 +51,7 @@ fn has_mandatory(constraints: &[Constraint]) -> bool
 }
 
 /// The variables with a Mandatory constraint, with room for every variable.
-pub(crate) fn mandatory_variables(alloc: Global, problem: &Problem) -> Result<Vec<VarId>, Memory>
+pub fn mandatory_variables(alloc: Global, problem: &Problem) -> Result<Vec<VarId>, Memory>
     ensures variables { IfOk result (λ chosen. chosen.items ≡ mandatory problem.now) }
     ensures room { IfOk result (λ chosen. length problem.now ≤ vec_capacity chosen) }
 {
@@ -67,7 +67,7 @@ pub(crate) fn mandatory_variables(alloc: Global, problem: &Problem) -> Result<Ve
 }
 
 /// The set of these variables.
-pub(crate) fn set_of(alloc: Global, problem: &Problem, vars: &[VarId]) -> Result<VarSet, Memory>
+pub fn set_of(alloc: Global, problem: &Problem, vars: &[VarId]) -> Result<VarSet, Memory>
     requires { AllByRecursion (λ v. v < length problem.now) vars.now }
     ensures size { IfOk result (λ set. length set ≡ length problem.now) }
     ensures same { IfOk result (λ set. at set ≡ is_among vars.now) }

@@ -1,5 +1,5 @@
 -- What a denial means: it is what a refutation needs, and no walk that chooses all of its set succeeds.
-use Rattle.std.proofs.Common.{◌≡◌, ℕ, zero, suc, ◌==◌, Bool, true, false, not, cond, ◌&&◌, ◌||◌, List, [], ◌∷◌, ◌++◌, map, refl, sym, ap, ◌∙◌, inl, inr, Option, Some, None, Ok, Err, eqb, slice_get, ◌⊎◌}
+use Rattle.std.proofs.Common.{◌≡◌, ℕ, ◌==◌, Bool, true, false, not, cond, ◌&&◌, ◌||◌, List, [], ◌∷◌, ◌++◌, map, refl, sym, ap, ◌∙◌, inl, inr, Some, None, eqb, ◌⊎◌}
 use Rattle.std.specs.List.{list_all, AllByRecursion}
 use Rattle.std.proofs.lemmas.Bool.{or_cases, or_left, or_right, or_from, or_parts, and_parts, and_from, eqb-true, eq-eqb, both_ways, not_from_true, not-true, false_from_ne_true, cond-true}
 use mathlib.Core.Bool.{beq}
@@ -9,16 +9,13 @@ use Rattle.op_constraints.specs.Meets.{Meets}
 use Rattle.op_constraints.specs.Walks.{is_among, walk, walk_from, Succeeds}
 use Rattle.op_constraints.proofs.WalkLaws.{under, chosen_stays}
 use Rattle.op_constraints.proofs.Prefixes.{walk-append}
-use Rattle.derivations.specs.declared.Hint.{Hint}
 use Rattle.derivations.specs.declared.Lemma.{Lemma}
 use Rattle.derivations.specs.declared.Refutation.{Refutation}
-use Rattle.derivations.specs.declared.LogCause.{LogCause}
-use Rattle.derivations.specs.declared.LogCause.TheVariants.{BadClause, NoConflict, NoSuchHint}
-use Rattle.derivations.specs.declared.Hint.TheVariants.{Lemma as LemmaHint, Given}
-use Rattle.std.specs.Option.{ok_or}
+use Rattle.derivations.specs.declared.LogCause.TheVariants.{BadClause, NoConflict}
 use Rattle.derivations.specs.Clauses.{negative, denial, is_same, is_in, lit_holds, clause_holds}
 use Rattle.derivations.specs.Follows.{clause_of, clauses, left, is_nothing, last_fault, all_hints_fault, is_clause, LogFollows}
 use Rattle.derivations.specs.Accepted.{denies, Refutes, contains_clause, ContainsNoGiven}
+use Rattle.derivations.proofs.Grows.{clause_of-grows}
 use Rattle.derivations.proofs.Sound.{fault_of-holds, log_fault-hold}
 use Rattle.preference_search.specs.Denials.{is_denied, IsDenial, AllowsSet}
 
@@ -154,20 +151,6 @@ denial-without problem log vs m d n i = record {
 
 -- Longer logs
 
-get-left : (xs ys : List (List Lit)) (k : ℕ) (x : List Lit) → slice_get xs k ≡ Some x → slice_get (xs ++ ys) k ≡ Some x
-get-left [] ys k x e = absurd (let bad : None ≡ Some x = e in cc)
-get-left (z ∷ zs) ys zero x e = e
-get-left (z ∷ zs) ys (suc k) x e = get-left zs ys k x e
-
-ok-some : (o : Option (List Lit)) (cause : LogCause) (clause : List Lit) → ok_or o cause ≡ Ok clause → o ≡ Some clause
-ok-some None cause clause e = absurd (let bad : Err cause ≡ Ok clause = e in cc)
-ok-some (Some x) cause clause e = cc
-
-named-grows : (problem : List (List Constraint)) (earlier more : List (List Lit)) (hint : Hint) (clause : List Lit) → clause_of problem earlier hint ≡ Ok clause → clause_of problem (earlier ++ more) hint ≡ Ok clause
-named-grows problem earlier more (LemmaHint number) clause e =
-    ap (λ o. ok_or o NoSuchHint) (get-left earlier more number clause (ok-some (slice_get earlier number) NoSuchHint clause e))
-named-grows problem earlier more (Given v place members) clause e = e
-
 pub clauses-push : (log : List Lemma) (lemma : Lemma) → clauses (log ++ lemma ∷ []) ≡ clauses log ++ lemma.lits ∷ []
 clauses-push [] lemma = refl
 clauses-push (l ∷ ls) lemma = ap (λ cs. l.lits ∷ cs) (clauses-push ls lemma)
@@ -178,7 +161,7 @@ denial-grows problem log lemma set d i = record {
   hint = i.hint;
   clause = i.clause;
   single = i.single;
-  named = ap (λ cs. clause_of problem cs i.hint) (clauses-push log lemma) ∙ named-grows problem (clauses log) (lemma.lits ∷ []) i.hint i.clause i.named;
+  named = ap (λ cs. clause_of problem cs i.hint) (clauses-push log lemma) ∙ clause_of-grows problem (clauses log) (lemma.lits ∷ []) i.hint i.clause i.named;
   all = i.all;
   only = i.only;
   good = i.good;

@@ -1,88 +1,20 @@
 -- What a full walk chose meets the problem, where no given clause denies it.
-use Rattle.std.proofs.Common.{◌≡◌, ℕ, zero, suc, ◌+◌, Bool, true, false, not, cond, ◌⊎◌, List, [], ◌∷◌, ◌++◌, map, refl, sym, ap, ◌∙◌, subst, arith, inl, inr, Some, None, slice_get, eqb}
-use Rattle.std.specs.List.{list_any, AllByRecursion}
-use Rattle.std.proofs.lemmas.Bool.{cases_Bool, or_cases, or_left, or_right, and_from, eqb-true, eq-eqb, both_ways, not_from_false, false_from_ne_true, cond-false}
+use Rattle.std.proofs.Common.{◌≡◌, ℕ, Bool, true, false, not, cond, List, [], ◌∷◌, map, refl, ap, ◌∙◌, subst, arith, inl, inr, Some, None}
+use Rattle.std.specs.List.{AllByRecursion}
+use Rattle.std.proofs.lemmas.Bool.{cases_Bool, or_left, or_right, and_from, both_ways, not_from_false, false_from_ne_true}
 use Rattle.op_constraints.specs.declared.Lit.{Lit}
 use Rattle.op_constraints.specs.declared.Constraint.{Constraint}
 use Rattle.op_constraints.specs.declared.Constraint.TheVariants.{Mandatory, Prohibited, Dependency, Conflict, AtMost}
 use Rattle.op_constraints.specs.Meets.{constraints_of, constraint_at, Meets}
-use Rattle.op_constraints.specs.Walks.{is_among, is_mandatory, mandatory_from, mandatory, dependencies, agenda, passed, waiting, walk}
+use Rattle.op_constraints.specs.Walks.{is_among, mandatory, agenda, waiting, walk}
 use Rattle.op_constraints.specs.Kept.{HasDistinctMembers}
+use Rattle.op_constraints.proofs.Full.{has_agenda, all_passed, any_mandatory, among_mandatory}
 use Rattle.op_constraints.proofs.WalkLaws.{chosen_stays}
 use Rattle.derivations.specs.Clauses.{positive, negative, clause_holds, is_too_many, given_clause}
 use Rattle.derivations.specs.Laws.{GivenHold}
 use Rattle.derivations.proofs.Sound.{positive-any}
 use Rattle.derivations.proofs.Converse.{clauses_are_problem}
 use Rattle.preference_search.specs.Denials.{is_denied, IsAllowed, AllowsSet}
-
--- The lists of the agenda
-abbrev pub HasList : List ℕ → List (List ℕ) → Type 0
-HasList ms [] = ⊥
-HasList ms (ns ∷ lists) = (ns ≡ ms) ⊎ HasList ms lists
-
-has_left : (ms : List ℕ) (xs ys : List (List ℕ)) → HasList ms xs → HasList ms (xs ++ ys)
-has_left ms [] ys h = absurd h
-has_left ms (x ∷ xs) ys (inl e) = inl e
-has_left ms (x ∷ xs) ys (inr h) = inr (has_left ms xs ys h)
-
-has_right : (ms : List ℕ) (xs ys : List (List ℕ)) → HasList ms ys → HasList ms (xs ++ ys)
-has_right ms [] ys h = h
-has_right ms (x ∷ xs) ys h = inr (has_right ms xs ys h)
-
-has_dependency : (cs : List Constraint) (k : ℕ) (ms : List ℕ) → slice_get cs k ≡ Some (Dependency ms) → HasList ms (dependencies cs)
-has_dependency [] k ms e = absurd (let bad : None ≡ Some (Dependency ms) = e in cc)
-has_dependency (Mandatory ∷ cs) zero ms e = absurd (let bad : Some Mandatory ≡ Some (Dependency ms) = e in cc)
-has_dependency (Prohibited ∷ cs) zero ms e = absurd (let bad : Some Prohibited ≡ Some (Dependency ms) = e in cc)
-has_dependency (Dependency ns ∷ cs) zero ms e = inl cc
-has_dependency (Conflict o ∷ cs) zero ms e = absurd (let bad : Some (Conflict o) ≡ Some (Dependency ms) = e in cc)
-has_dependency (AtMost n ns ∷ cs) zero ms e = absurd (let bad : Some (AtMost n ns) ≡ Some (Dependency ms) = e in cc)
-has_dependency (Mandatory ∷ cs) (suc k) ms e = has_dependency cs k ms e
-has_dependency (Prohibited ∷ cs) (suc k) ms e = has_dependency cs k ms e
-has_dependency (Dependency ns ∷ cs) (suc k) ms e = inr (has_dependency cs k ms e)
-has_dependency (Conflict o ∷ cs) (suc k) ms e = has_dependency cs k ms e
-has_dependency (AtMost n ns ∷ cs) (suc k) ms e = has_dependency cs k ms e
-
-has_agenda : (problem : List (List Constraint)) (chosen : List ℕ) (v k : ℕ) (ms : List ℕ) → is_among chosen v ≡ true → constraint_at problem v k ≡ Some (Dependency ms) → HasList ms (agenda problem chosen)
-has_agenda problem [] v k ms e at = absurd (let bad : false ≡ true = e in cc)
-has_agenda problem (w ∷ ws) v k ms e at =
-    elim (or_cases (eqb w v) (is_among ws v) e) [
-      | inl same ↦ has_left ms (dependencies (constraints_of problem w)) (agenda problem ws)
-          (has_dependency (constraints_of problem w) k ms (ap (λ u. constraint_at problem u k) (eqb-true w v same) ∙ at))
-      | inr rest ↦ has_right ms (dependencies (constraints_of problem w)) (agenda problem ws) (has_agenda problem ws v k ms rest at)
-    ]
-
-all_passed : (set : ℕ → Bool) (lists : List (List ℕ)) (ms : List ℕ) → passed set lists ≡ [] → HasList ms lists → list_any set ms ≡ true
-all_passed set [] ms e h = absurd h
-all_passed set (ns ∷ lists) ms e h =
-    elim (cases_Bool (list_any set ns)) [
-      | inl here ↦
-          (let e' = rw here at e in
-          elim h [
-            | inl same ↦ subst (λ (xs : List ℕ). list_any set xs ≡ true) same here
-            | inr rest ↦ all_passed set lists ms e' rest
-          ])
-      | inr other ↦ absurd (let bad : (ns ∷ lists) ≡ [] = sym (cond-false (list_any set ns) (passed set lists) (ns ∷ lists) other) ∙ e in cc)
-    ]
-
--- Mandatory variables
-
-any_mandatory : (cs : List Constraint) (k : ℕ) → slice_get cs k ≡ Some Mandatory → list_any is_mandatory cs ≡ true
-any_mandatory [] k e = absurd (let bad : None ≡ Some Mandatory = e in cc)
-any_mandatory (c ∷ cs) zero e = or_left (is_mandatory c) (list_any is_mandatory cs) (let same : c ≡ Mandatory = cc in ap is_mandatory same)
-any_mandatory (c ∷ cs) (suc k) e = or_right (is_mandatory c) (list_any is_mandatory cs) (any_mandatory cs k e)
-
-among_mandatory : (n : ℕ) (problem : List (List Constraint)) (i v : ℕ) → v ≡ n + i → list_any is_mandatory (constraints_of problem i) ≡ true → is_among (mandatory_from n problem) v ≡ true
-among_mandatory n [] i v e m = absurd (let bad : false ≡ true = m in cc)
-among_mandatory n (cs ∷ css) zero v e m =
-    rw m (or_left (eqb n v) (is_among (mandatory_from (n + 1) css) v) (eq-eqb n v (omega arith)))
-among_mandatory n (cs ∷ css) (suc i) v e m =
-    let rest = among_mandatory (n + 1) css i v (omega arith) m in
-    elim (cases_Bool (list_any is_mandatory cs)) [
-      | inl here ↦ rw here (or_right (eqb n v) (is_among (mandatory_from (n + 1) css) v) rest)
-      | inr other ↦ rw other rest
-    ]
-
--- Clauses of denials
 
 -- one that doesn't deny the set holds of it
 negatives-hold : (set : ℕ → Bool) (vs : List ℕ) → is_denied set (map negative vs) ≡ false → clause_holds set (map negative vs) ≡ true

@@ -19,7 +19,7 @@ use Rattle.preference_search.specs.declared.search.Pass.TheVariants.{Denied, Tur
 use Rattle.preference_search.specs.Lists.{IsNext}
 use Rattle.preference_search.specs.Searching.{IsAt, IsTrying}
 use Rattle.preference_search.specs.State.{Comes, Advanced, PassedOver, IsPast}
-use Rattle.preference_search.proofs.Before.{before-number}
+use Rattle.op_constraints.proofs.Extending.{before-number}
 use Rattle.preference_search.proofs.Turning.{IsBackAt, get-member, offered-at}
 
 pub at-same : (problem : List (List Constraint)) (budget : ℕ) (log log' : List Lemma) (numbers numbers' chosen chosen' : List ℕ) (bits bits' : List Bool) (steps steps' : List (ℕ × ℕ × Refutation)) (after count : ℕ)

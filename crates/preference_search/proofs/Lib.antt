@@ -1,4 +1,3 @@
-pub mod Before
 pub mod Denying
 pub mod Passing
 pub mod Trying

@@ -1,14 +1,14 @@
 -- How the list that waits first is found.
-use Rattle.std.proofs.Common.{◌≡◌, ℕ, zero, suc, ◌+◌, ◌≤◌, ◌<◌, ◌==◌, Bool, true, List, [], ◌∷◌, ◌++◌, length, drop, get_or, refl, sym, ap, ◌∙◌, subst, arith, Some, None, slice_get, drop-cons, add-one}
-use Rattle.std.specs.List.{AllByRecursion}
+use Rattle.std.proofs.Common.{◌≡◌, ℕ, zero, suc, ◌+◌, ◌≤◌, ◌<◌, ◌==◌, Bool, true, List, [], ◌∷◌, ◌++◌, length, drop, get_or, refl, sym, ap, ◌∙◌, arith, Some, slice_get, drop-cons, add-one}
 use Rattle.std.proofs.lemmas.Bool.{or_left, or_right, eq-eqb}
 use Rattle.std.proofs.lemmas.List.{drop_all}
 use Rattle.op_constraints.specs.declared.Constraint.{Constraint}
 use Rattle.op_constraints.specs.declared.Constraint.TheVariants.{Mandatory, Prohibited, Dependency, Conflict, AtMost}
 use Rattle.op_constraints.specs.declared.TheConstants.{VAR_LIMIT}
-use Rattle.op_constraints.specs.Meets.{constraints_of, constraint_at, at}
+use Rattle.op_constraints.specs.Meets.{constraints_of, at}
 use Rattle.op_constraints.specs.Walks.{is_among, passed, dependencies, agenda, waiting}
-use Rattle.op_constraints.specs.Kept.{HasFewMembers, IsKept}
+use Rattle.op_constraints.specs.Kept.{IsKept}
+use Rattle.op_constraints.proofs.Trying.{few-of}
 use Rattle.op_constraints.proofs.Looking.{passed-append_none, passed-append_some}
 use Rattle.preference_search.specs.Lists.{IsNext}
 
@@ -67,16 +67,6 @@ waits-end problem set chosen i same so_far h =
     ap (λ (f : ℕ → Bool). passed f (agenda problem chosen)) (sym same) ∙ (so_far ∙ ap (λ vs. passed set (agenda problem vs)) (drop_all i chosen h))
 
 -- Sizes
-
-few-at : (cs : List Constraint) (place : ℕ) (members : List ℕ) → AllByRecursion HasFewMembers cs → slice_get cs place ≡ Some (Dependency members) → length members ≤ VAR_LIMIT
-few-at [] place members a e = absurd (let bad : None ≡ Some (Dependency members) = e in cc)
-few-at (c ∷ cs) zero members a e = let same : c ≡ Dependency members = cc in subst HasFewMembers same a.0
-few-at (c ∷ cs) (suc place) members a e = few-at cs place members a.1 e
-
-few-of : (problem : List (List Constraint)) (v place : ℕ) (members : List ℕ) → AllByRecursion (λ cs. AllByRecursion HasFewMembers cs) problem → constraint_at problem v place ≡ Some (Dependency members) → length members ≤ VAR_LIMIT
-few-of [] v place members a e = absurd (let bad : None ≡ Some (Dependency members) = e in cc)
-few-of (cs ∷ css) zero place members a e = few-at cs place members a.0 e
-few-of (cs ∷ css) (suc v) place members a e = few-of css v place members a.1 e
 
 pub few-members : (problem : List (List Constraint)) (v place : ℕ) (cs : List Constraint) (members : List ℕ) → IsKept problem → cs ≡ constraints_of problem v → slice_get cs place ≡ Some (Dependency members) → length members ≤ VAR_LIMIT
 few-members problem v place cs members k at e = few-of problem v place members k.few_members (ap (λ ds. slice_get ds place) (sym at) ∙ e)

@@ -1,5 +1,6 @@
 -- The partial walks that were tried, and that none of them comes after a walk that succeeds.
-use Rattle.std.proofs.Common.{◌≡◌, ℕ, ◌+◌, ◌≤◌, ◌<◌, List, [], ◌∷◌, ◌++◌, length, sym, ap, ◌∙◌, subst, arith, inl, inr, Some, append_assoc}
+use Rattle.std.proofs.Common.{◌≡◌, ℕ, zero, suc, ◌+◌, ◌≤◌, ◌<◌, List, [], ◌∷◌, ◌++◌, length, sym, ap, ◌∙◌, subst, arith, inl, inr, Some, append_assoc}
+use Rattle.std.proofs.lemmas.Bool.{cases_order}
 use Rattle.std.proofs.lemmas.List.{length-append}
 use Rattle.op_constraints.specs.declared.Constraint.{Constraint}
 use Rattle.op_constraints.specs.Walks.{waiting, walk, zeros, Succeeds, IsBefore, IsPartial, IsWide, FirstSucceeds}
@@ -7,8 +8,9 @@ use Rattle.derivations.specs.declared.Lemma.{Lemma}
 use Rattle.derivations.specs.declared.Refutation.{Refutation}
 use Rattle.derivations.specs.Follows.{LogFollows}
 use Rattle.derivations.specs.Accepted.{Refutes}
-use Rattle.preference_search.specs.Searching.{NoneBefore, HasTried}
-use Rattle.preference_search.proofs.Before.{before-extended, before-more, before-next, before-first, zeros-before, rising-push, all-before}
+use Rattle.op_constraints.specs.Trails.{NoneBefore}
+use Rattle.preference_search.specs.Searching.{HasTried}
+use Rattle.op_constraints.proofs.Extending.{before-extended, before-more, before-next, before-first, rising-push, all-before}
 use Rattle.preference_search.proofs.Denying.{refuted-walks}
 use Rattle.preference_search.proofs.Passing.{all-snoc}
 
@@ -39,6 +41,18 @@ none-next problem log ks vs k r n l w i = λ earlier b s.
 
 pub none-up : (problem : List (List Constraint)) (ks rest : List ℕ) → NoneBefore problem (ks ++ rest) → NoneBefore problem ks
 none-up problem ks rest n = λ earlier b s. n earlier (before-more earlier ks rest b) s
+
+-- the walk of zeros comes before each list that ends in a later number
+zeros-before : (n : ℕ) (ks : List ℕ) (k : ℕ) → IsBefore (zeros n) (ks ++ (k + 1) ∷ [])
+zeros-before zero [] k = tt
+zeros-before zero (i ∷ ks) k = tt
+zeros-before (suc n) [] k = inl (omega arith)
+zeros-before (suc n) (i ∷ ks) k =
+    elim (cases_order 0 i) [
+      | inl same ↦ inr (same, zeros-before n ks k)
+      | inr (inl low) ↦ inl low
+      | inr (inr high) ↦ absurd (omega (arith, high))
+    ]
 
 -- the first walk is one of those that fail
 pub first-fails : (problem : List (List Constraint)) (ks : List ℕ) (k : ℕ) → NoneBefore problem (ks ++ (k + 1) ∷ []) → FirstSucceeds problem → ⊥

@@ -20,8 +20,9 @@ use Rattle.derivations.specs.Follows.{clauses, Follows}
 use Rattle.derivations.specs.Accepted.{Refutes}
 use Rattle.preference_search.specs.Denials.{is_denied, IsDenial, IsUndenied}
 use Rattle.preference_search.specs.Lists.{IsNext}
-use Rattle.preference_search.specs.Searching.{ArePassedOver, NoneBefore, HasTried, IsLog, IsUndeniedBefore, IsAt, IsTrying}
-use Rattle.preference_search.proofs.Before.{before-number}
+use Rattle.preference_search.specs.Searching.{ArePassedOver, HasTried, IsLog, IsUndeniedBefore, IsAt, IsTrying}
+use Rattle.op_constraints.proofs.Extending.{before-number}
+use Rattle.op_constraints.specs.Trails.{NoneBefore}
 use Rattle.preference_search.proofs.Denying.{undenied-less, allowed-less, denial-without, denial-refutes}
 use Rattle.preference_search.proofs.Passing.{snoc-same, all-snoc, all-unsnoc, LastStep, passed-down, passed-next, passed-grows, passed-cut, steps-enough}
 use Rattle.preference_search.proofs.Trying.{none-down, none-next, none-up, first-fails, tried-enter, tried-later, tried-wide}

@@ -3,8 +3,9 @@ use Rattle.std.specs.Prelude.{◌≡◌, ℕ, ◌+◌, ◌<◌, ◌≤◌, Bool,
 use Rattle.std.specs.List.{AllByRecursion}
 use Rattle.op_constraints.specs.declared.Constraint.{Constraint}
 use Rattle.op_constraints.specs.declared.TheConstants.{VAR_LIMIT}
-use Rattle.op_constraints.specs.Walks.{is_among, waiting, member, walk, Succeeds, IsBefore, IsBest, IsPartial, AreRising}
+use Rattle.op_constraints.specs.Walks.{is_among, waiting, member, walk, IsBefore, IsBest, IsPartial, AreRising}
 use Rattle.op_constraints.specs.WalkInvariant.{Stands}
+use Rattle.op_constraints.specs.Trails.{NoneBefore}
 use Rattle.derivations.specs.declared.Lemma.{Lemma}
 use Rattle.derivations.specs.declared.Refutation.{Refutation}
 use Rattle.derivations.specs.Clauses.{negative, is_in}
@@ -25,10 +26,6 @@ pub record IsPassedOver (problem : List (List Constraint)) (log : List Lemma) (n
 pub record ArePassedOver (problem : List (List Constraint)) (log : List Lemma) (numbers : List ℕ) (steps : List (ℕ × ℕ × Refutation)) : Type 0 where
   pub complete : map (λ s. (s.0, s.1)) steps ≡ pairs_from 0 numbers
   pub each : AllByRecursion (IsPassedOver problem log numbers) steps
-
--- no walk before these numbers succeeds
-abbrev pub NoneBefore : List (List Constraint) → List ℕ → Type 0
-NoneBefore problem numbers = (earlier : List ℕ) → IsBefore earlier numbers → Succeeds problem earlier → ⊥
 
 -- at least so many partial walks were tried, all of them before these numbers, and none after the best one
 pub record HasTried (problem : List (List Constraint)) (next : List ℕ) (number : ℕ) : Type 0 where

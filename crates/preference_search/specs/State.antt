@@ -5,6 +5,7 @@ use Rattle.op_constraints.specs.declared.Constraint.{Constraint}
 use Rattle.op_constraints.specs.declared.TheConstants.{VAR_LIMIT}
 use Rattle.op_constraints.specs.Walks.{is_among, mandatory, member, waiting, IsWide, FirstSucceeds}
 use Rattle.op_constraints.specs.WalkInvariant.{Stands}
+use Rattle.op_constraints.specs.Trails.{NoneBefore}
 use Rattle.derivations.specs.declared.Refutation.{Refutation}
 use Rattle.derivations.specs.Clauses.{negative}
 use Rattle.derivations.specs.Follows.{Follows}
@@ -15,7 +16,7 @@ use Rattle.preference_search.specs.declared.search.Turn.TheVariants.{Onward, Fou
 use Rattle.preference_search.specs.declared.search.Pass.{Pass}
 use Rattle.preference_search.specs.declared.search.Pass.TheVariants.{Denied, Turned}
 use Rattle.preference_search.specs.Denials.{IsDenial, AllowsSet, IsUndenied}
-use Rattle.preference_search.specs.Searching.{ArePassedOver, NoneBefore, HasTried, IsLog, IsAt, IsTrying}
+use Rattle.preference_search.specs.Searching.{ArePassedOver, HasTried, IsLog, IsAt, IsTrying}
 
 abbrev pub At : List (List Constraint) → ℕ → Search → Type 0
 At problem budget s = IsAt problem budget s.log.lemmas s.numbers.items s.chosen.items s.bits.items s.steps.items 0 (length s.log.lemmas + length s.numbers.items)

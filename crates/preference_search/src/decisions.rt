@@ -7,10 +7,9 @@ ghost use Rattle.preference_search.specs.State.{IsFound, IsRefuted, IsSpent};
 use crate::Decision;
 use crate::naming::places_of;
 use crate::search::{Search, Turn};
-use crate::sets::set_of;
 use derivations::{Certificate, Finding, Refutation};
 use olm_base::{Many, Memory};
-use op_constraints::Problem;
+use op_constraints::{Problem, set_of};
 use std::alloc::Global;
 
 fn copied(alloc: Global, numbers: &[u32]) -> Result<Many<u32>, Memory>

@@ -1,5 +1,5 @@
 // Lists that are looked up by variable, and the constraints that name each variable.
-ghost use Rattle.std.specs.Prelude.{◌≡◌, ℕ, [], ◌∷◌, ◌<◌, ◌≤◌, ◌+◌, true, length, slice_get, Some, IfOk, OnOk, IfNone, IfSome};
+ghost use Rattle.std.specs.Prelude.{◌≡◌, ℕ, [], ◌∷◌, ◌<◌, ◌≤◌, ◌+◌, true, length, replicate, slice_get, Some, IfOk, OnOk, IfNone, IfSome};
 ghost use Rattle.op_constraints.specs.declared.TheConstants.{VAR_LIMIT};
 ghost use Rattle.op_constraints.specs.declared.Constraint.{Constraint};
 ghost use Rattle.op_constraints.specs.Walks.{is_among};
@@ -26,7 +26,9 @@ impl<T> Model for ByVariable<T> {
 
 impl<T: Copy + Drop> ByVariable<T> {
     /// An empty list for each of so many variables.
-    pub(crate) fn new(alloc: Global, count: usize) -> Result<ByVariable<T>, Memory> {
+    pub(crate) fn new(alloc: Global, count: usize) -> Result<ByVariable<T>, Memory>
+        ensures { IfOk result (λ lists. lists ≡ replicate count []) }
+    {
         let mut lists = Vec::new(alloc);
         for _ in 0..count {
             lists.push(Many::new(alloc))?;
@@ -38,6 +40,7 @@ impl<T: Copy + Drop> ByVariable<T> {
     pub(crate) fn list(&self, var: VarId) -> Option<&[T]>
         ensures some { IfSome result (λ list. list.now ≡ list_of self.now var) }
         ensures within { IfSome result (λ list. var < length self.now) }
+        ensures none { IfNone result (length self.now ≤ var) }
     {
         let index = var.0 as usize;
         if index < self.lists.len() {

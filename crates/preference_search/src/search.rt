@@ -18,10 +18,10 @@ use crate::denials::{by_given, by_number, by_places, denials_of};
 use crate::learnt::Learnt;
 use crate::lists::{Open, next_open};
 use crate::naming::{ByVariable, Place};
-use crate::sets::{bits_of, mandatory_variables};
+use crate::sets::bits_of;
 use derivations::{Hint, Refutation};
 use olm_base::{Many, Memory};
-use op_constraints::{Lit, Problem, VarId};
+use op_constraints::{Lit, Problem, VarId, mandatory_variables};
 use std::alloc::Global;
 
 /// Where a search stands: at a partial walk, with the candidates that it passed over on the way.

@@ -30,3 +30,5 @@ pub use view_basis::{Visible, basis_of, catalogs_of, installed_of};
 
 #[cfg(test)]
 mod tests;
+#[cfg(test)]
+mod upgrade_tests;

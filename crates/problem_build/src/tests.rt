@@ -22,7 +22,7 @@ struct Channel {
 }
 
 /// A subscription: its name, package, channel, catalog and first version.
-type Wish = (
+pub(crate) type Wish = (
     &'static str,
     &'static str,
     &'static str,
@@ -32,7 +32,7 @@ type Wish = (
 
 /// An installed version: its name, package, version and phase, what it replaces, and the kind of its one definition
 /// `ks.g.io`.
-type Csv = (
+pub(crate) type Csv = (
     &'static str,
     &'static str,
     &'static str,
@@ -132,7 +132,7 @@ fn body(alloc: Global, channels: &[Channel]) -> Result<Vec<u8>, Fail> {
     Ok(out)
 }
 
-fn name(alloc: Global, text: &str) -> Result<Name, Fail> {
+pub(crate) fn name(alloc: Global, text: &str) -> Result<Name, Fail> {
     Ok(Name::new(alloc, text.as_bytes())?)
 }
 
@@ -144,7 +144,7 @@ fn opt_name(alloc: Global, text: &str) -> Result<Option<Name>, Fail> {
 }
 
 /// A slot of a kind of the operators' group, in its first version.
-fn slot(
+pub(crate) fn slot(
     alloc: Global,
     kind: &str,
     namespace: &str,
@@ -173,7 +173,7 @@ fn slot(
     Ok((key, Shared::new(alloc, slot)?))
 }
 
-fn csv_status(alloc: Global, csv: &Csv) -> Result<Status, Fail> {
+pub(crate) fn csv_status(alloc: Global, csv: &Csv) -> Result<Status, Fail> {
     let mut owned = Many::new(alloc);
     if !csv.5.is_empty() {
         owned.push(Crd {
@@ -193,7 +193,7 @@ fn csv_status(alloc: Global, csv: &Csv) -> Result<Status, Fail> {
     }))
 }
 
-fn wish_status(alloc: Global, wish: &Wish) -> Result<Status, Fail> {
+pub(crate) fn wish_status(alloc: Global, wish: &Wish) -> Result<Status, Fail> {
     let spec = SubSpec {
         package: name(alloc, wish.1)?,
         channel: opt_name(alloc, wish.2)?,
@@ -325,19 +325,22 @@ fn line(alloc: Global, built: &Built, variable: &VarName, number: u32) -> Result
     Ok(out)
 }
 
-/// The first line in which the problem of the view isn't the one of the case.
-fn difference(alloc: Global, case: &Case) -> Result<Option<Vec<u8>>, Fail> {
-    let view = view(alloc, case)?;
-    let built = problem_of(alloc, &view)?;
+/// The first line in which the problem of the view isn't this one.
+pub(crate) fn differing(
+    alloc: Global,
+    view: &View,
+    problem: &[&str],
+) -> Result<Option<Vec<u8>>, Fail> {
+    let built = problem_of(alloc, view)?;
     let mut number: u32 = 0;
-    for (variable, wanted) in built.names.as_slice().iter().zip(case.problem) {
+    for (variable, wanted) in built.names.as_slice().iter().zip(problem) {
         let found = line(alloc, &built, variable, number)?;
         if found.as_slice() != wanted.as_bytes() {
             return Ok(Some(found));
         }
         number = number.saturating_add(1);
     }
-    if built.problem.len() != case.problem.len() || !built.problem.closed() {
+    if built.problem.len() != problem.len() || !built.problem.closed() {
         return Ok(Some(Vec::new(alloc)));
     }
     Ok(None)
@@ -756,7 +759,7 @@ const CASES: [Case; 12] = [
 fn views_have_their_problems(rt: HostRuntime) -> Result<(), Fail> {
     let alloc = rt.alloc();
     for (number, case) in CASES.iter().enumerate() {
-        if let Some(found) = difference(alloc, case)? {
+        if let Some(found) = differing(alloc, &view(alloc, case)?, case.problem)? {
             assert_eq!(rt; found.as_slice(), b"".as_slice(), "case {number}");
             assert!(rt; false, "case {number}");
         }

@@ -1,4 +1,4 @@
-use Rattle.std.proofs.Common.{◌≡◌, sym, ap, ◌∙◌}
+use Rattle.std.proofs.Common.{sym, ap, ◌∙◌}
 use Rattle.op_constraints.specs.Meets.{at}
 use Rattle.preference_search.specs.Denials.{is_denied}
 use Rattle.preference_search.proofs.Indexing.{numbered-denies, numbered-undenied, unnumbered-undenied}

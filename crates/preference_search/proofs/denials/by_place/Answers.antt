@@ -1,4 +1,4 @@
-use Rattle.std.proofs.Common.{◌≡◌, sym}
+use Rattle.std.proofs.Common.{sym}
 use Rattle.preference_search.proofs.Indexing.{within-found, distinct-found, given-answer}
 use Rattle.preference_search.proofs.denials.by_place.Goals as goal
 

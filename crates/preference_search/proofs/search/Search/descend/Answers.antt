@@ -1,7 +1,7 @@
 use Rattle.std.proofs.Common.{◌≡◌, ℕ, List, [], ◌∷◌, ◌++◌, sym, subst}
 use Rattle.op_constraints.specs.Walks.{IsBefore}
 use Rattle.preference_search.specs.Lists.{IsNext}
-use Rattle.preference_search.proofs.Before.{before-extended}
+use Rattle.op_constraints.proofs.Extending.{before-extended}
 use Rattle.preference_search.proofs.Turning.{trying-begun}
 use Rattle.preference_search.proofs.Going.{comes-later}
 use Rattle.preference_search.proofs.search.Search.descend.Goals as goal

@@ -1,4 +1,4 @@
-use Rattle.std.proofs.Common.{ℕ, List, refl, ap, length, arith}
+use Rattle.std.proofs.Common.{ℕ, List, refl, arith}
 use Rattle.preference_search.proofs.Turning.{closed-spent, closed-learnt}
 use Rattle.preference_search.proofs.search.Search.learn.Goals as goal
 

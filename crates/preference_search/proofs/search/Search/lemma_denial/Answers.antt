@@ -1,4 +1,4 @@
-use Rattle.std.proofs.Common.{◌≡◌, ◌<◌, ◌-◌, ℕ, List, Some, length, slice_get, vec_len, ap, ◌∙◌, arith}
+use Rattle.std.proofs.Common.{◌<◌, ◌-◌, ℕ, List, length, slice_get, vec_len, ap, ◌∙◌, arith}
 use Rattle.op_constraints.specs.Meets.{at}
 use Rattle.preference_search.proofs.Arriving.{some-items, lemma-none}
 use Rattle.preference_search.proofs.search.Search.lemma_denial.Goals as goal

@@ -9,10 +9,10 @@ pub bits_of-requires : goal.bits_of-requires
 bits_of-requires c =
     let problem = c.args.problem.now in
     let P : List ℕ → Type 0 = λ vs. AllByRecursion (λ v. v < length problem) vs in
-    let same : c.as_slice.result.now ≡ mandatory problem = c.as_slice.ensures.value ∙ c.in_ok-chosen.ensures in
+    let same : c.as_slice.result.now ≡ mandatory problem = c.as_slice.ensures.value ∙ c.in_ok-chosen.ensures.variables in
     subst P (sym same) (mandatory-there problem)
 
 pub returns : goal.returns
 returns c = λ budget.
     begun c.args.problem.now budget c.in_ok-log.log.lemmas c.new-2.result.items c.in_ok-chosen.chosen.items c.in_ok-bits.bits.items c.new-3.result.items
-    c.requires c.in_ok-log.ensures c.new-2.ensures.items c.in_ok-chosen.ensures c.new-3.ensures.items c.in_ok-bits.ensures.size (c.in_ok-bits.ensures.same ∙ ap is_among c.as_slice.ensures.value)
+    c.requires c.in_ok-log.ensures c.new-2.ensures.items c.in_ok-chosen.ensures.variables c.new-3.ensures.items c.in_ok-bits.ensures.size (c.in_ok-bits.ensures.same ∙ ap is_among c.as_slice.ensures.value)

@@ -1,5 +1,5 @@
 -- What is printed for a catalog is accepted for it.
-use Rattle.std.proofs.Common.{◌≡◌, ℕ, Bool, true, List, ◌++◌, refl, sym, ap, ◌∙◌, subst, Ok}
+use Rattle.std.proofs.Common.{◌≡◌, ℕ, Bool, true, List, ◌++◌, refl, sym, ap, ◌∙◌, subst}
 use Rattle.std.specs.Prelude.{IsTrue}
 use Rattle.op_constraints.specs.declared.Constraint.{Constraint}
 use Rattle.derivations.specs.Text.{certificate_text}

@@ -1,5 +1,5 @@
 -- What is built of a view is closed.
-use Rattle.std.proofs.Common.{◌≡◌, List, Ok}
+use Rattle.std.proofs.Common.{List, Ok}
 use Rattle.cluster_objects.specs.declared.resolutions.Basis.{Basis}
 use Rattle.op_constraints.specs.Meets.{IsClosed}
 use Rattle.view_basis.specs.declared.visible.Visible.{Visible}

@@ -1,5 +1,5 @@
 -- There is one question.
-use Rattle.std.proofs.Common.{◌≡◌, ℕ, List, refl, sym, ◌∙◌, Option, Some, None, Ok}
+use Rattle.std.proofs.Common.{◌≡◌, ℕ, List, sym, ◌∙◌, Option, Some, None, Ok}
 use Rattle.cluster_history.specs.Views.{View}
 use Rattle.view_basis.specs.Basis.{basis}
 use Rattle.view_basis.specs.Visible.{visible_catalogs}

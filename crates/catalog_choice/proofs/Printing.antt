@@ -22,7 +22,7 @@ use Rattle.problem_build.specs.declared.names.VarName.TheVariants as variable
 use Rattle.answer_lines.specs.declared.Pick.{Pick}
 use Rattle.answer_lines.specs.declared.Pick.TheVariants.{Take, Keep}
 use Rattle.one_subscription.specs.Asked.{asked_view}
-use Rattle.catalog_choice.specs.Asking.{IsAsked, IsAskedBy, IsUnmet, IsOfView, name_of, unmet}
+use Rattle.catalog_choice.specs.Asking.{IsAskedBy, IsUnmet, IsOfView, name_of, unmet}
 use Rattle.catalog_choice.specs.Laws.{PicksArePrinted}
 use Rattle.catalog_choice.specs.Picked.{pick_at, pick_of, picked}
 use Rattle.catalog_choice.specs.declared.asking.Question.{Question}

@@ -1,5 +1,5 @@
 -- The kinds of objects that the rules speak of, and when an object counts as one of them.
-use Rattle.std.specs.Prelude.{Bool, true, false, List, ℕ, Option, Some, None, ◌&&◌, codes, if◌then◌else◌}
+use Rattle.std.specs.Prelude.{Bool, List, ℕ, Option, Some, None, ◌&&◌, codes, if◌then◌else◌}
 use Rattle.cluster_objects.specs.Keys.{same_text}
 use Rattle.cluster_objects.specs.declared.keys.Key.{Key}
 use Rattle.cluster_objects.specs.declared.objects.Object.{Object}

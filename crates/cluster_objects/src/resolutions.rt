@@ -59,7 +59,7 @@ pub enum Outcome {
     Refused,
     /// The budget of lemmas was spent.
     Undecided { lemmas: u32 },
-    /// The problem has more variables than the limit.
+    /// The problem is above the limit: it has so many variables, or one of them has so many constraints.
     TooLarge { count: u64 },
 }
 

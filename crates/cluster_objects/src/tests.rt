@@ -1,5 +1,5 @@
 use super::*;
-use olm_base::{Name, Text};
+use olm_base::{Bytes, Gvk, Many, Name, Text};
 use std::alloc::Global;
 use std::test::Fail;
 
@@ -124,5 +124,139 @@ fn a_stamp_is_copied_whole(rt: HostRuntime) -> Result<(), Fail> {
         step: 2,
     };
     assert!(rt; stamp == stamp.clone()?);
+    Ok(())
+}
+
+fn name(alloc: Global, text: &str) -> Result<Name, Fail> {
+    Ok(Name::new(alloc, text.as_bytes())?)
+}
+
+fn bytes(alloc: Global, text: &[u8]) -> Result<Bytes, Fail> {
+    Ok(Bytes::from_vec(Vec::from_slice(alloc, text)?))
+}
+
+fn wanted(alloc: Global) -> Result<SubSpec, Fail> {
+    Ok(SubSpec {
+        package: name(alloc, "argo")?,
+        channel: Some(name(alloc, "stable")?),
+        source: name(alloc, "catalog")?,
+        source_namespace: name(alloc, "olm")?,
+        starting: None,
+        manual: true,
+    })
+}
+
+fn csv(alloc: Global) -> Result<Status, Fail> {
+    let owned = Crd {
+        name: name(alloc, "apps.argo.io")?,
+        version: name(alloc, "v1")?,
+        kind: name(alloc, "App")?,
+    };
+    Ok(Status::Csv(CsvStatus {
+        package: Some(name(alloc, "argo")?),
+        version: Text::from_str(alloc, "1.0.0")?,
+        owned: Many::from_vec(vec![in alloc; owned]?),
+        needed: Many::new(alloc),
+        deployments: Many::from_vec(vec![in alloc; name(alloc, "argo-operator")?]?),
+        replaces: Some(name(alloc, "argo.v0.9.0")?),
+        phase: CsvPhase::Replacing,
+    }))
+}
+
+fn plan(alloc: Global) -> Result<Status, Fail> {
+    let step = Step {
+        key: key(alloc, "apps", b"Deployment", "default", b"argo-operator")?,
+        body: bytes(alloc, b"{}")?,
+        made: Made::Subscription(SubscriptionStatus {
+            spec: wanted(alloc)?,
+            state: SubState::UpgradePending,
+        }),
+        state: StepState::Aimed { version: 3 },
+    };
+    Ok(Status::Plan(PlanStatus {
+        number: 1,
+        manual: true,
+        approved: false,
+        phase: PlanPhase::Failed,
+        cause: Some(PlanFault::NoManifest {
+            bundle: name(alloc, "argo.v1.0.0")?,
+        }),
+        steps: Many::from_vec(vec![in alloc; step]?),
+    }))
+}
+
+fn basis(alloc: Global) -> Result<Basis, Fail> {
+    let kind = Gvk {
+        group: Text::from_str(alloc, "argo.io")?,
+        version: name(alloc, "v1")?,
+        kind: name(alloc, "App")?,
+    };
+    let tip = Tip {
+        name: name(alloc, "argo.v1.0.0")?,
+        package: None,
+        version: Text::from_str(alloc, "1.0.0")?,
+        kinds: Many::from_vec(vec![in alloc; kind]?),
+        succeeded: true,
+    };
+    let seen = Seen {
+        namespace: name(alloc, "olm")?,
+        name: name(alloc, "catalog")?,
+        priority: -1,
+        version: 2,
+    };
+    Ok(Basis {
+        subscriptions: Many::from_vec(vec![in alloc; (name(alloc, "argo")?, wanted(alloc)?)]?),
+        tips: Many::from_vec(vec![in alloc; tip]?),
+        catalogs: Many::from_vec(vec![in alloc; seen]?),
+    })
+}
+
+fn resolution(alloc: Global) -> Result<Status, Fail> {
+    let taken = Taken {
+        catalog_namespace: name(alloc, "olm")?,
+        catalog: name(alloc, "catalog")?,
+        package: name(alloc, "argo")?,
+        channel: name(alloc, "stable")?,
+        name: name(alloc, "argo.v2.0.0")?,
+        version: Text::from_str(alloc, "2.0.0")?,
+        replaces: Some(name(alloc, "argo.v1.0.0")?),
+    };
+    Ok(Status::Resolution(ResolutionStatus {
+        number: 1,
+        budget: 10,
+        again: true,
+        basis: basis(alloc)?,
+        outcome: Outcome::Chosen {
+            walk: Many::from_vec(vec![in alloc; 0u32]?),
+            taken: Many::from_vec(vec![in alloc; taken]?),
+        },
+        certificate: bytes(alloc, b"end")?,
+    }))
+}
+
+// Whether a copy of a write of an object with this status is made, and is equal.
+fn is_copied(alloc: Global, status: Status) -> Result<bool, Fail> {
+    let write = Write {
+        by: Writer::Installer,
+        expect: 4,
+        key: key(alloc, "apps", b"Deployment", "default", b"a")?,
+        object: Some(Object {
+            body: bytes(alloc, b"{}")?,
+            status,
+            owner: Some(name(alloc, "argo.v1.0.0")?),
+            stamp: None,
+            seen: 7,
+        }),
+    };
+    let copy = write.clone()?;
+    Ok(copy == write)
+}
+
+#[test]
+fn writes_are_copied(rt: HostRuntime) -> Result<(), Fail> {
+    let alloc = rt.alloc();
+    assert!(rt; is_copied(alloc, csv(alloc)?)?);
+    assert!(rt; is_copied(alloc, plan(alloc)?)?);
+    assert!(rt; is_copied(alloc, resolution(alloc)?)?);
     Ok(())
 }

@@ -3,7 +3,7 @@ use olm_base::{Bytes, Name};
 use std::alloc::Global;
 use std::test::Fail;
 
-// The view's length, the number of its slots, and the sum of their versions.
+// The view's length, the number of its slots, and the bits of their versions together.
 fn told(alloc: Global, package_name: &Name) -> Result<(u64, usize, u64), Fail> {
     let body = Bytes::from_vec(Vec::from_slice(alloc, b"{}")?);
     let channel = Name::new(alloc, b"stable")?;

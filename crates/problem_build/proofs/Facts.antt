@@ -1,10 +1,8 @@
 -- What is so of every problem of a namespace.
-use Rattle.std.proofs.Common.{◌≡◌, ◌+◌, ◌<◌, ◌≤◌, ◌↔◌, ℕ, zero, suc, Bool, true, false, cond, nat_lt, if◌then◌else◌, List, [], ◌∷◌, ◌++◌, length, map, drop, refl, sym, ap, ◌∙◌, subst, arith, append_assoc, Option, Some, None, slice_get}
+use Rattle.std.proofs.Common.{◌≡◌, ◌+◌, ◌<◌, ◌≤◌, ℕ, zero, suc, Bool, true, false, cond, if◌then◌else◌, List, [], ◌∷◌, ◌++◌, length, map, drop, refl, sym, ap, ◌∙◌, subst, arith, append_assoc, Option, Some, None, slice_get}
 use Rattle.std.specs.List.{AllByRecursion, flat_map, list_any}
 use Rattle.std.specs.Option.{IfSome, option_and_then, option_map, option_map_or, option_to_list}
 use Rattle.std.proofs.lemmas.List.{append-nil, length-append, length-map}
-use Rattle.cluster_objects.specs.declared.resolutions.Basis.{Basis}
-use Rattle.cluster_objects.specs.declared.resolutions.Tip.{Tip}
 use Rattle.op_constraints.specs.Meets.{IsClosed, IsWithin, at, constraints_of}
 use Rattle.op_constraints.specs.Walks.{agenda, dependencies, is_among, mandatory, member, passed, picks, waiting, walk, walk_from}
 use Rattle.op_constraints.specs.declared.Constraint.{Constraint}
@@ -12,20 +10,15 @@ use Rattle.op_constraints.specs.declared.Constraint.TheVariants.{Mandatory, Proh
 use Rattle.op_properties.specs.Offers.{Provided}
 use Rattle.op_properties.specs.Passing.{passes}
 use Rattle.op_properties.specs.declared.requirement.Requirement.{Requirement}
-use Rattle.view_basis.specs.Tips.{is_tip_of, tip_offer}
-use Rattle.view_basis.specs.declared.visible.Visible.{Visible}
-use Rattle.problem_build.specs.Asking.{asked, installed_place, is_candidate, is_upgrade}
+use Rattle.problem_build.specs.Asking.{asked, is_candidate, is_upgrade}
 use Rattle.problem_build.specs.Building.{choices as chosen_from}
 use Rattle.problem_build.specs.Entries.{Entry, entries}
-use Rattle.problem_build.specs.Laws.{AllAreThere, IsEntryOrTip, IsProblemOf, PicksAreEntriesOrTips, ThereIsOne}
-use Rattle.problem_build.specs.Numbers.{numbers_where}
-use Rattle.problem_build.specs.Reaching.{AreReached}
-use Rattle.problem_build.specs.Variables.{Choices, candidates, conflicts_with, entries_where, first_entry, first_tip, installed_one, is_installed_one, kinds, names, need, of_entry, of_kind, of_package, of_subscription, of_tip, one_of, packages, passes_beside, passes_elsewhere, passing, problem, provided, providers_where, tips_where}
+use Rattle.problem_build.specs.Laws.{AllAreThere, IsEntryOrTip, PicksAreEntriesOrTips, ThereIsOne}
+use Rattle.problem_build.specs.Variables.{Choices, candidates, conflicts_with, entries_where, first_entry, first_tip, installed_one, is_installed_one, names, need, of_subscription, of_tip, passes_beside, passes_elsewhere, passing, problem, provided, providers_where, tips_where}
 use Rattle.problem_build.specs.declared.asking.Asked.{Asked}
-use Rattle.problem_build.specs.declared.names.VarName.{VarName}
 use Rattle.problem_build.proofs.Answering.{asks_among, problem_length}
 use Rattle.problem_build.proofs.Counting.{where_all}
-use Rattle.problem_build.proofs.Keeping.{all_append, all_flat_map, all_map, all_map_of, any, each_row}
+use Rattle.problem_build.proofs.Keeping.{all_append, all_flat_map, all_map, all_map_of, each_row}
 
 bool_same : (b c : Bool) → (b ≡ true → c ≡ true) → (c ≡ true → b ≡ true) → b ≡ c
 bool_same true c f g = sym (f refl)

@@ -1,19 +1,18 @@
 -- A problem takes the constraints of these variables as they are.
-use Rattle.std.proofs.Common.{◌≡◌, ◌+◌, ◌<◌, ◌≤◌, ℕ, Bool, true, false, not, ◌&&◌, if◌then◌else◌, List, [], ◌∷◌, ◌++◌, length, map, refl, sym, ap, ◌∙◌, subst, arith, Option, Some, None}
-use Rattle.std.specs.List.{All, AllByRecursion, flat_map, range_with_len}
+use Rattle.std.proofs.Common.{◌≡◌, ◌+◌, ◌<◌, ◌≤◌, ℕ, Bool, true, false, not, ◌&&◌, if◌then◌else◌, List, [], ◌∷◌, ◌++◌, length, map, refl, ap, ◌∙◌, arith, Option, Some, None}
+use Rattle.std.specs.List.{AllByRecursion, flat_map, range_with_len}
 use Rattle.std.specs.Option.{IfSome, option_map, option_to_list}
 use Rattle.std.proofs.lemmas.List.{length-append, length-map}
 use Rattle.std.proofs.lemmas.List.Elements.{recursion_from_All}
-use Rattle.op_constraints.specs.Kept.{HasFewMembers, each_once, kept}
+use Rattle.op_constraints.specs.Kept.{HasFewMembers, kept}
 use Rattle.op_constraints.specs.declared.Constraint.{Constraint}
-use Rattle.op_constraints.specs.declared.Constraint.TheVariants.{Mandatory, Dependency, Conflict, AtMost}
+use Rattle.op_constraints.specs.declared.Constraint.TheVariants.{Mandatory, Conflict, AtMost}
 use Rattle.op_constraints.specs.declared.TheConstants.{VAR_LIMIT}
 use Rattle.op_properties.specs.Offers.{Provided}
 use Rattle.op_properties.specs.Passing.{passes}
 use Rattle.op_properties.specs.declared.requirement.Requirement.{Requirement}
 use Rattle.problem_build.specs.Asking.{is_candidate, is_upgrade}
 use Rattle.problem_build.specs.Entries.{Entry}
-use Rattle.problem_build.specs.Numbers.{numbers_where}
 use Rattle.problem_build.specs.Variables.{Choices, Fits, candidates, conflicts_with, entries_where, first_entry, first_tip, installed_one, is_beside, is_installed_one, kinds, need, of_entry, of_kind, of_package, of_subscription, of_tip, one_of, packages, passes_beside, passes_elsewhere, passing, problem, provided, providers_where, tips_where}
 use Rattle.problem_build.specs.declared.asking.Asked.{Asked}
 use Rattle.problem_build.proofs.Counting.{few_of_two, few_where, once_where}

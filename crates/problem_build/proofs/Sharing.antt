@@ -1,19 +1,21 @@
 -- A set that meets a problem has one entry or tip of a package, and one provider of a kind.
-use Rattle.std.proofs.Common.{Less, Equal, Greater, ◌≡◌, ◌+◌, ◌<◌, ◌≤◌, ◌==◌, ℕ, zero, suc, Bool, true, false, cond, nat_lt, nat_le, nat_eq, ◌&&◌, if◌then◌else◌, List, [], ◌∷◌, ◌++◌, length, map, get_or, refl, sym, ap, ◌∙◌, subst, arith, Option, Some, None, slice_get}
+use Rattle.std.proofs.Common.{Less, Equal, Greater, ◌≡◌, ◌+◌, ◌<◌, ◌≤◌, ℕ, zero, suc, Bool, true, false, cond, nat_lt, nat_le, if◌then◌else◌, List, [], ◌∷◌, ◌++◌, length, map, refl, sym, ap, ◌∙◌, subst, arith, Option, Some, None, slice_get}
 use Rattle.std.specs.BTreeSet.{insert_key}
-use Rattle.std.specs.Cmp.Lexicographic.{pointwise, slice_cmp}
+use Rattle.std.specs.Cmp.Lexicographic.{slice_cmp}
 use Rattle.std.specs.List.{cons_option, count_by, filter, filter_map, flat_map, fold, list_any, range_with_len}
 use Rattle.std.specs.Option.{option_map_or}
-use Rattle.std.specs.Ordering.{match_ordering, nat_cmp, ordering_then}
+use Rattle.std.specs.Ordering.{match_ordering, nat_cmp}
 use Rattle.std.specs.declared.cmp.Ordering.{Ordering}
-use Rattle.std.proofs.lemmas.Bool.{eqb-true, le-leb, leb-true, ltb-true, ltb-false}
+use Rattle.std.proofs.lemmas.Bool.{le-leb, leb-true, ltb-true, ltb-false}
 use Rattle.std.proofs.lemmas.List.Sums.{sum_by-cons}
+use Rattle.std.proofs.lemmas.Map.Lookups.{exact_bytes, exact_pairs}
 use Rattle.std.proofs.lemmas.Option.{get_or_from_slice_get}
 use Rattle.olm_base.specs.declared.gvk.Gvk.{Gvk}
 use Rattle.op_constraints.specs.Meets.{Meets, constraint_at, constraints_of}
 use Rattle.op_constraints.specs.declared.Constraint.{Constraint}
 use Rattle.op_constraints.specs.declared.Constraint.TheVariants.{AtMost}
 use Rattle.op_properties.specs.Offers.{Provided, same_kind}
+use Rattle.op_properties.proofs.Singles.{same_is, same_kind_is}
 use Rattle.fbc_types.specs.Texts.{same}
 use Rattle.problem_build.specs.Laws.{HasOneAtMost, KindsAreOnce, PackagesAreOnce}
 use Rattle.problem_build.specs.Numbers.{numbers_where, once_in_order}
@@ -219,79 +221,21 @@ module _ (choices : Choices) (set : ℕ → Bool) (meets : Meets (problem choice
       ] in
       go (nat_lt i j) (nat_lt j i) refl refl
 
-both_true : (a b : Bool) → (a && b) ≡ true → (a ≡ true) × (b ≡ true)
-both_true true b h = (refl, h)
-both_true false b h = absurd (let bad : false ≡ true = h in cc)
-
-same_text : (xs ys : List ℕ) → same xs ys ≡ true → xs ≡ ys
-same_text [] [] h = refl
-same_text [] (y ∷ ys) h = absurd (let bad : false ≡ true = h in cc)
-same_text (x ∷ xs) [] h = absurd (let bad : false ≡ true = h in cc)
-same_text (x ∷ xs) (y ∷ ys) h =
-    let both = both_true (nat_eq x y) (pointwise nat_eq xs ys) h in
-    let head : x ≡ y = eqb-true x y both.0 in
-    let tail : xs ≡ ys = same_text xs ys both.1 in
-    cc
-
-tied_numbers : (x y : ℕ) → nat_cmp x y ≡ Equal → x ≡ y
-tied_numbers x y h =
-    let go : (a b : Bool) → (x == y) ≡ b → cond a Less (cond b Equal Greater) ≡ Equal → x ≡ y =
-    λ a b. elim a as (λ a. (x == y) ≡ b → cond a Less (cond b Equal Greater) ≡ Equal → x ≡ y) [
-      | true ↦ λ e k. absurd (let bad : Less ≡ Equal = k in cc)
-      | false ↦ elim b as (λ b. (x == y) ≡ b → cond b Equal Greater ≡ Equal → x ≡ y) [
-        | true ↦ λ e k. eqb-true x y e
-        | false ↦ λ e k. absurd (let bad : Greater ≡ Equal = k in cc)
-      ]
-    ] in
-    go (nat_lt x y) (x == y) refl h
-
-both_tied : (a b : Ordering) → ordering_then a b ≡ Equal → (a ≡ Equal) × (b ≡ Equal)
-both_tied Less b h = absurd (let bad : Less ≡ Equal = h in cc)
-both_tied Equal b h = (refl, h)
-both_tied Greater b h = absurd (let bad : Greater ≡ Equal = h in cc)
-
-tied_texts : (xs ys : List ℕ) → slice_cmp nat_cmp xs ys ≡ Equal → xs ≡ ys
-tied_texts [] [] h = refl
-tied_texts [] (y ∷ ys) h = absurd (let bad : Less ≡ Equal = h in cc)
-tied_texts (x ∷ xs) [] h = absurd (let bad : Greater ≡ Equal = h in cc)
-tied_texts (x ∷ xs) (y ∷ ys) h =
-    let both = both_tied (nat_cmp x y) (slice_cmp nat_cmp xs ys) h in
-    let head : x ≡ y = tied_numbers x y both.0 in
-    let tail : xs ≡ ys = tied_texts xs ys both.1 in
-    cc
-
-kinds_equal : (a b : Gvk) → a.group ≡ b.group → a.version ≡ b.version → a.kind ≡ b.kind → a ≡ b
-kinds_equal a b g v k =
-    ap (λ (x : List ℕ). let gvk : Gvk = record { group = x; version = a.version; kind = a.kind } in gvk) g
-    ∙ ap (λ (x : List ℕ). let gvk : Gvk = record { group = b.group; version = x; kind = a.kind } in gvk) v
-    ∙ ap (λ (x : List ℕ). let gvk : Gvk = record { group = b.group; version = b.version; kind = x } in gvk) k
-
 tied_kinds : (a b : Gvk) → kind_cmp a b ≡ Equal → a ≡ b
 tied_kinds a b h =
-    let one = both_tied (slice_cmp nat_cmp a.group b.group) (ordering_then (slice_cmp nat_cmp a.version b.version) (slice_cmp nat_cmp a.kind b.kind)) h in
-    let two = both_tied (slice_cmp nat_cmp a.version b.version) (slice_cmp nat_cmp a.kind b.kind) one.1 in
-    kinds_equal a b (tied_texts a.group b.group one.0) (tied_texts a.version b.version two.0) (tied_texts a.kind b.kind two.1)
-
-same_kinds : (a b : Gvk) → same_kind a b ≡ true → a ≡ b
-same_kinds a b h =
-    let one = both_true (same a.group b.group && same a.version b.version) (same a.kind b.kind) h in
-    let two = both_true (same a.group b.group) (same a.version b.version) one.0 in
-    kinds_equal a b (same_text a.group b.group two.0) (same_text a.version b.version two.1) (same_text a.kind b.kind one.1)
+    ap (λ (p : List ℕ × (List ℕ × List ℕ)). let gvk : Gvk = record { group = p.0; version = p.1.0; kind = p.1.1 } in gvk)
+    (exact_pairs _ _ exact_bytes (exact_pairs _ _ exact_bytes exact_bytes) (a.group, (a.version, a.kind)) (b.group, (b.version, b.kind)) h)
 
 named_package : (name : List ℕ) (o : Option (List ℕ)) → option_map_or (same name) o false ≡ true → o ≡ Some name
 named_package name None h = absurd (let bad : false ≡ true = h in cc)
-named_package name (Some other) h = ap Some (sym (same_text name other h))
-
-or_true : (a b : Bool) → (cond a true b) ≡ true → a ≡ false → b ≡ true
-or_true true b h e = absurd (let bad : true ≡ false = e in cc)
-or_true false b h e = h
+named_package name (Some other) h = ap Some (sym (same_is name other h))
 
 in_kinds : (kind : Gvk) (ks : List Gvk) → list_any (same_kind kind) ks ≡ true → In kind ks
 in_kinds kind [] h = absurd (let bad : false ≡ true = h in cc)
 in_kinds kind (k ∷ ks) h =
     let go : (b : Bool) → same_kind kind k ≡ b → In kind (k ∷ ks) =
     λ b. elim b as (λ b. same_kind kind k ≡ b → In kind (k ∷ ks)) [
-      | true ↦ λ e. (zero, ap Some (sym (same_kinds kind k e)))
+      | true ↦ λ e. (zero, ap Some (sym (same_kind_is kind k e)))
       | false ↦ λ e.
           let rest : list_any (same_kind kind) ks ≡ true = rw e at h in
           let r = in_kinds kind ks rest in
@@ -304,7 +248,7 @@ package_row : (choices : Choices) (name : List ℕ) (a : Provided) (i : ℕ) →
 package_row choices name a i e h shared =
     let offers = provided choices in
     let one = in_filter_map (λ (offer : Provided). offer.«package») a name offers i e (named_package name a.«package» h) in
-    let once = fold_new (slice_cmp nat_cmp) tied_texts (filter_map (λ (offer : Provided). offer.«package») offers) [] name one.0 one.1 in
+    let once = fold_new (slice_cmp nat_cmp) exact_bytes (filter_map (λ (offer : Provided). offer.«package») offers) [] name one.0 one.1 in
     let kept = in_filter (λ (n : List ℕ). is_shared offers (is_of_package n)) name (once_in_order (slice_cmp nat_cmp) (filter_map (λ (offer : Provided). offer.«package») offers)) once.0 once.1
     (le-leb 2 (count_by (is_of_package name) offers) shared) in
     let row = in_map (of_package choices) name (packages offers) kept.0 kept.1 in

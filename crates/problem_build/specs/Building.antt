@@ -16,7 +16,6 @@ use Rattle.problem_build.specs.declared.asking.Asked.{Asked}
 use Rattle.problem_build.specs.declared.building.BuildFault.{BuildFault}
 use Rattle.problem_build.specs.declared.building.BuildFault.TheVariants.{TooManyVariables, Memory}
 use Rattle.problem_build.specs.declared.building.Built.{Built}
-use Rattle.problem_build.specs.declared.names.VarName.{VarName}
 
 -- What each subscription asks for, by the subscriptions' names.
 abbrev pub asks : Basis → List Visible → List Asked

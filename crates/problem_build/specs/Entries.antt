@@ -1,5 +1,5 @@
 -- The entries of the visible catalogs: each bundle as often as it stands in a channel.
-use Rattle.std.specs.Prelude.{ℕ, Bool, ◌&&◌, List, [], map, Option, slice_get}
+use Rattle.std.specs.Prelude.{ℕ, Bool, ◌&&◌, List, [], Option, slice_get}
 use Rattle.std.specs.Cmp.Lexicographic.{slice_cmp}
 use Rattle.std.specs.List.{filter_map, flat_map, list_any}
 use Rattle.std.specs.Option.{option_and_then, option_map, option_map_or, unwrap_or}

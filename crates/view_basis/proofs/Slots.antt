@@ -24,7 +24,7 @@ use Rattle.view_basis.specs.Basis.{subscription_in}
 use Rattle.view_basis.specs.Laws.{CatalogsAreInOrder, CatalogsAreOfSlots, SubscriptionsAreByName, TipsAreByName}
 use Rattle.view_basis.specs.Tips.{csv_in, is_replaced, tip_in, tip_of}
 use Rattle.view_basis.specs.Visible.{Source, is_before, is_seen_from, seen_cmp, source_at, source_in, source_of, sources}
-use Rattle.view_basis.proofs.EachOnce.{same_is}
+use Rattle.op_properties.proofs.Singles.{same_is}
 use Rattle.view_basis.proofs.Ordered.{picked, shown_in_order, sorted_in_order, sorted_permutes}
 
 -- keys that differ in their names alone are in the order of these

@@ -4,23 +4,21 @@ ghost use Rattle.std.specs.Result.{result_ok};
 ghost use Rattle.catalog_stream.specs.Stream.{blobs};
 ghost use Rattle.fbc_read.specs.Blobs.{nothing};
 ghost use Rattle.fbc_read.specs.Catalogs.{reading};
+ghost use Rattle.fbc_read.specs.declared.bodies.TheConstants.{INPUT_LIMIT};
 ghost use Rattle.fbc_check.specs.Checking.{checked};
 ghost use Rattle.std.specs.Option.{option_map};
 ghost use Rattle.view_basis.specs.Bodies.{valid_catalog};
 
 use catalog_stream::Blobs;
 use fbc_check::{CheckRefusal, check};
-use fbc_read::{ReadFault, read_catalog};
+use fbc_read::{INPUT_LIMIT, ReadFault, read_catalog};
 use fbc_types::{Catalog, CheckedCatalog};
 use olm_base::Memory;
 use std::alloc::Global;
 
-/// The most bytes of a body that is read as a catalog.
-pub const BODY_LIMIT: usize = 67_108_864;
-
 // The catalog of a text that is read without fault.
 fn read_text(alloc: Global, text: &[u8]) -> Result<Option<Catalog>, Memory>
-    requires { length text.now ≤ BODY_LIMIT }
+    requires { length text.now ≤ INPUT_LIMIT }
     ensures { IfOk result (λ catalog. catalog ≡ option_map (λ read. read.catalog) (result_ok (reading nothing 0 (blobs text.now)))) }
 {
     let mut catalog = Catalog::new(alloc);
@@ -43,12 +41,12 @@ fn keep_valid(alloc: Global, catalog: Catalog) -> Result<Option<CheckedCatalog>,
     }
 }
 
-/// The catalog of a body, where it has at most [`BODY_LIMIT`] bytes, is read without fault and breaks no rule.
+/// The catalog of a body, where it has at most [`INPUT_LIMIT`] bytes, is read without fault and breaks no rule.
 #[tactic(auto, unfolding(crate::specs::Bodies::valid_catalog))]
 pub fn catalog_of_body(alloc: Global, body: &[u8]) -> Result<Option<CheckedCatalog>, Memory>
     ensures { IfOk result (λ catalog. catalog ≡ valid_catalog body.now) }
 {
-    if body.len() > BODY_LIMIT {
+    if body.len() as u64 > INPUT_LIMIT {
         return Ok(None);
     }
     match read_text(alloc, body)? {

@@ -12,7 +12,7 @@ mod tips;
 mod visible;
 
 pub use basis::{basis_of, subscriptions_of};
-pub use bodies::{BODY_LIMIT, catalog_of_body};
+pub use bodies::catalog_of_body;
 pub use laws::{
     catalogs_are_in_order, installed_is_first, names_are_in_order, valid_breaks_nothing,
 };

@@ -3,6 +3,7 @@ use cluster_objects::{
     CatalogStatus, Crd, CsvPhase, CsvStatus, Key, Object, Status, SubSpec, SubState,
     SubscriptionStatus, Tip,
 };
+use fbc_read::INPUT_LIMIT;
 use object_store::{Shared, Slot, View};
 use olm_base::{Bytes, Many, Memory, Name, Text};
 use semver::Version;
@@ -428,7 +429,7 @@ fn a_basis_has_what_a_namespace_sees(rt: HostRuntime) -> Result<(), Fail> {
 #[test]
 fn a_body_above_the_limit_is_no_catalog(rt: HostRuntime) -> Result<(), Fail> {
     let alloc = rt.alloc();
-    let long = vec![in alloc; b' '; BODY_LIMIT + 1]?;
+    let long = vec![in alloc; b' '; INPUT_LIMIT as usize + 1]?;
     assert!(rt; catalog_of_body(alloc, long.as_slice())?.is_none());
     assert!(rt; catalog_of_body(alloc, b" ")?.is_some());
     Ok(())

@@ -1,6 +1,6 @@
-use Rattle.std.proofs.Common.{◌≡◌, ◌+◌, ◌<◌, ◌∷◌, ◌++◌, [], ℕ, List, length, sym, ap, ◌∙◌, subst, Some, get_or, drop, slice_index}
+use Rattle.std.proofs.Common.{◌+◌, ◌∷◌, ◌++◌, [], sym, ap, ◌∙◌, get_or, drop, slice_index}
 use Rattle.std.proofs.lemmas.List.{append_assoc}
-use Rattle.op_constraints.specs.Walks.{Walked, taken, choice, mandatory, walk_from}
+use Rattle.op_constraints.specs.Walks.{Walked, choice, mandatory, walk_from}
 use Rattle.catalog_choice.proofs.Walking.{goes_on, walk_on}
 use Rattle.catalog_choice.proofs.picks.picked_variables.Goals as goal
 

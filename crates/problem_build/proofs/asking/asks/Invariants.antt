@@ -1,4 +1,4 @@
-use Rattle.std.proofs.Common.{◌≡◌, ◌++◌, map, take, ℕ, List}
+use Rattle.std.proofs.Common.{◌≡◌, map, take, ℕ, List}
 use Rattle.cluster_objects.specs.declared.statuses.SubSpec.{SubSpec}
 use Rattle.problem_build.specs.Asking as spec
 use Rattle.problem_build.proofs.asking.asks.Given as goal

@@ -5,7 +5,7 @@ use Rattle.std.specs.Option.{IfSome}
 use Rattle.std.proofs.lemmas.List.{length-map}
 use Rattle.std.proofs.lemmas.List.Elements.{All-from_recursion}
 use Rattle.cluster_objects.specs.declared.statuses.SubSpec.{SubSpec}
-use Rattle.op_properties.specs.Offers.{Provided, shown}
+use Rattle.op_properties.specs.Offers.{shown}
 use Rattle.view_basis.specs.Tips.{tip_offer}
 use Rattle.problem_build.specs.Asking.{asked}
 use Rattle.problem_build.specs.Building.{asks}

@@ -1,13 +1,11 @@
-use Rattle.std.proofs.Common.{◌≡◌, ◌<◌, ◌≤◌, ◌∙◌, ℕ, List, ap, sym, subst, arith, rules, length, map, Some}
+use Rattle.std.proofs.Common.{◌≡◌, ◌<◌, ◌∙◌, ℕ, List, ap, sym, subst, arith, rules, length, map, Some}
 use Rattle.std.specs.Borrow.{Bor}
 use Rattle.std.specs.List.{All, AllByRecursion}
 use Rattle.std.specs.Option.{IfSome}
 use Rattle.std.proofs.lemmas.List.{length-map}
 use Rattle.std.proofs.lemmas.List.Elements.{All-from_recursion}
-use Rattle.olm_base.specs.declared.gvk.Gvk.{Gvk}
 use Rattle.op_constraints.specs.Kept.{HasFewConstraints, HasFewMembers, kept}
 use Rattle.op_constraints.specs.declared.Constraint.{Constraint}
-use Rattle.op_constraints.specs.declared.TheConstants.{VAR_LIMIT}
 use Rattle.op_properties.specs.Offers.{Provided, shown}
 use Rattle.op_properties.specs.declared.offer.Offer.{Offer}
 use Rattle.view_basis.specs.Tips.{tip_offer}

@@ -1,6 +1,5 @@
-use Rattle.std.proofs.Common.{◌≡◌, List, length, map, drop, max}
+use Rattle.std.proofs.Common.{◌≡◌, length, map, drop, max}
 use Rattle.std.specs.List.{fold}
-use Rattle.op_constraints.specs.declared.Constraint.{Constraint}
 use Rattle.problem_build.specs.Building as spec
 use Rattle.problem_build.proofs.building.most_constraints.Given as goal
 

@@ -1,9 +1,8 @@
-use Rattle.std.proofs.Common.{◌≡◌, ◌≢◌, ◌<◌, ◌≤◌, ◌+◌, ◌++◌, ◌∷◌, [], ◌∙◌, ℕ, List, ap, sym, subst, arith, length, length-set, map, take, get_or, get_or-set_other}
+use Rattle.std.proofs.Common.{◌≡◌, ◌≢◌, ◌<◌, ◌++◌, ◌∷◌, [], ◌∙◌, List, ap, sym, subst, arith, length, length-set, map, take, get_or, get_or-set_other}
 use Rattle.std.specs.List.{AllByRecursion}
 use Rattle.std.proofs.lemmas.List.{length-take, take_more}
 use Rattle.op_constraints.specs.Kept.{HasFewConstraints, HasFewMembers, kept}
 use Rattle.op_constraints.specs.declared.Constraint.{Constraint}
-use Rattle.op_constraints.specs.declared.TheConstants.{VAR_LIMIT}
 use Rattle.problem_build.proofs.building.problem_of_rows.Goals as goal
 
 pub push-requires-clause-variables : goal.push-requires-clause-variables

@@ -1,4 +1,4 @@
-use Rattle.std.proofs.Common.{◌≡◌, ◌++◌, ◌∙◌, List, ap, map}
+use Rattle.std.proofs.Common.{◌++◌, ◌∙◌, List, ap, map}
 use Rattle.std.specs.Borrow.{Bor}
 use Rattle.op_properties.specs.Offers.{Provided, shown}
 use Rattle.problem_build.specs.Entries.{Entry}

@@ -1,12 +1,9 @@
-use Rattle.std.proofs.Common.{◌≡◌, ◌++◌, ◌+◌, map, drop, length}
+use Rattle.std.proofs.Common.{◌≡◌, ◌++◌, ◌+◌, map, drop}
 use Rattle.problem_build.specs.Numbers.{numbers_where}
 use Rattle.problem_build.specs.Shown.{shown_entry}
 use Rattle.problem_build.specs.Variables as spec
-use Rattle.problem_build.specs.Asking as asking
 use Rattle.std.specs.Borrow.{Bor}
 use Rattle.problem_build.specs.declared.entries.Listed.{Listed}
-use Rattle.op_properties.specs.Passing as passing
-use Rattle.op_properties.specs.Offers.{shown}
 use Rattle.problem_build.proofs.candidates.add_beside.Given as goal
 
 abbrev pub invariant-loop-i : goal.invariant-loop-i

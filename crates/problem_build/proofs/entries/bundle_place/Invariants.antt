@@ -1,8 +1,4 @@
-use Rattle.std.proofs.Common.{◌≡◌, ◌&&◌, drop}
-use Rattle.std.specs.List.{find}
-use Rattle.fbc_types.specs.Rules.{is_bundle_of}
-use Rattle.fbc_types.specs.Texts.{same}
-use Rattle.fbc_types.specs.declared.catalog.Bundle.{Bundle}
+use Rattle.std.proofs.Common.{◌≡◌, drop}
 use Rattle.upgrade_graph.specs.Order.{bundle_named}
 use Rattle.problem_build.proofs.entries.bundle_place.Given as goal
 

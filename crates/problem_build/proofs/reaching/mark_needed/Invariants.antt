@@ -1,4 +1,4 @@
-use Rattle.std.proofs.Common.{◌≡◌, ◌<◌, ◌≤◌, ◌||◌, ℕ, length, get_or}
+use Rattle.std.proofs.Common.{◌≡◌, ◌<◌, ◌≤◌, ◌||◌, ℕ, get_or}
 use Rattle.op_constraints.specs.Meets.{at}
 use Rattle.problem_build.specs.Reaching as reaching
 use Rattle.problem_build.specs.Shown.{shown_entry}

@@ -1,11 +1,10 @@
-use Rattle.std.proofs.Common.{◌≡◌, ◌++◌, ◌∷◌, [], List, ℕ, map, drop}
+use Rattle.std.proofs.Common.{◌≡◌, ◌++◌, ◌∷◌, [], map, drop}
 use Rattle.problem_build.specs.Numbers.{numbers_where}
 use Rattle.problem_build.specs.Variables as spec
 use Rattle.std.specs.Borrow.{Bor}
 use Rattle.op_properties.specs.declared.offer.Offer.{Offer}
 use Rattle.op_properties.specs.Offers.{shown}
 use Rattle.olm_base.specs.declared.gvk.Gvk.{Gvk}
-use Rattle.op_constraints.specs.declared.Constraint.{Constraint}
 use Rattle.op_constraints.specs.declared.Constraint.TheVariants.{AtMost}
 use Rattle.problem_build.proofs.rows.add_kinds.Given as goal
 

@@ -1,5 +1,5 @@
 use Rattle.std.proofs.Common.{◌≡◌, ◌++◌, map, drop}
-use Rattle.problem_build.specs.Shown.{shown_choices, shown_entry}
+use Rattle.problem_build.specs.Shown.{shown_choices}
 use Rattle.problem_build.specs.Variables as spec
 use Rattle.problem_build.proofs.rows.add_subscriptions.Given as goal
 

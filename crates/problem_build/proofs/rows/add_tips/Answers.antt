@@ -1,4 +1,4 @@
-use Rattle.std.proofs.Common.{◌≡◌, ◌++◌, ◌∷◌, [], ◌∙◌, ◌-◌, ◌+◌, List, ℕ, ap, sym, map, length, append_assoc}
+use Rattle.std.proofs.Common.{◌++◌, ◌∷◌, [], ◌∙◌, ◌-◌, ◌+◌, List, ℕ, ap, sym, map, length, append_assoc}
 use Rattle.std.specs.List.{range_with_len}
 use Rattle.op_constraints.specs.declared.Constraint.{Constraint}
 use Rattle.problem_build.specs.Variables.{of_tip}

@@ -1,8 +1,8 @@
 // Upgrades that a range of versions skips to, from an installed version that a view holds.
 use super::*;
 use crate::tests::{Csv, csv_status, differing, name, slot, wish_status};
-use cluster_objects::{CatalogStatus, CsvPhase, Status};
-use object_store::View;
+use cluster_objects::{CatalogStatus, CsvPhase, Key, Status};
+use object_store::{Shared, View};
 use std::alloc::Global;
 use std::test::Fail;
 
@@ -85,19 +85,48 @@ const ROWS: [Row; 5] = [
     ),
 ];
 
-fn view(alloc: Global, row: &Row) -> Result<View, Fail> {
-    let catalog = Status::Catalog(CatalogStatus { priority: 0 });
+fn catalog_slot(alloc: Global) -> Result<(Key, Shared), Fail> {
+    let status = Status::Catalog(CatalogStatus { priority: 0 });
     let text = Vec::from_slice(alloc, SKIPPING)?;
+    slot(alloc, "CatalogSource", "olm", "catalog", status, text)
+}
+
+fn csv_slot(alloc: Global, row: &Row) -> Result<(Key, Shared), Fail> {
     let csv: Csv = (row.0, "argo", row.1, CsvPhase::Succeeded, "", "");
-    let csv = csv_status(alloc, &csv)?;
-    let wish = wish_status(alloc, &("argo", "argo", "stable", "catalog", ""))?;
+    let status = csv_status(alloc, &csv)?;
     let none = Vec::new(alloc);
-    let no_more = Vec::new(alloc);
+    slot(
+        alloc,
+        "ClusterServiceVersion",
+        "default",
+        row.0,
+        status,
+        none,
+    )
+}
+
+fn wish_slot(alloc: Global) -> Result<(Key, Shared), Fail> {
+    let status = wish_status(alloc, &("argo", "argo", "stable", "catalog", ""))?;
+    let none = Vec::new(alloc);
+    slot(alloc, "Subscription", "default", "argo", status, none)
+}
+
+fn view(alloc: Global, row: &Row) -> Result<View, Fail> {
     let mut slots = Vec::new(alloc);
-    slots.push(slot(alloc, "CatalogSource", "olm", "catalog", catalog, text)?)?;
-    slots.push(slot(alloc, "ClusterServiceVersion", "default", row.0, csv, none)?)?;
-    slots.push(slot(alloc, "Subscription", "default", "argo", wish, no_more)?)?;
+    slots.push(catalog_slot(alloc)?)?;
+    slots.push(csv_slot(alloc, row)?)?;
+    slots.push(wish_slot(alloc)?)?;
     Ok(View::new(name(alloc, "default")?, 1, slots))
+}
+
+fn upgrades(alloc: Global, view: &View) -> Result<Vec<u8>, Fail> {
+    let found = upgrades_of(alloc, view, &name(alloc, "argo")?)?;
+    let mut text = Vec::new(alloc);
+    for upgrade in found.as_slice() {
+        text.extend_from_slice(upgrade.as_bytes())?;
+        text.push(b' ')?;
+    }
+    Ok(text)
 }
 
 #[test]
@@ -105,12 +134,7 @@ fn ranges_are_skipped(rt: HostRuntime) -> Result<(), Fail> {
     let alloc = rt.alloc();
     for row in &ROWS {
         let view = view(alloc, row)?;
-        let mut text = Vec::new(alloc);
-        for upgrade in upgrades_of(alloc, &view, &name(alloc, "argo")?)?.as_slice() {
-            text.extend_from_slice(upgrade.as_bytes())?;
-            text.push(b' ')?;
-        }
-        assert_eq!(rt; text.as_slice(), row.2);
+        assert_eq!(rt; upgrades(alloc, &view)?.as_slice(), row.2);
         if let Some(found) = differing(alloc, &view, row.3)? {
             assert_eq!(rt; found.as_slice(), b"".as_slice());
             assert!(rt; false);

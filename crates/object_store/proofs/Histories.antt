@@ -1,5 +1,5 @@
 -- A store holds a history, whatever it answers.
-use Rattle.std.proofs.Common.{◌≡◌, ◌⊎◌, Bool, inl, inr, sym, subst}
+use Rattle.std.proofs.Common.{◌≡◌, Bool, inl, inr, sym, subst}
 use Rattle.cluster_history.specs.History.{History, After, IsHistory}
 use Rattle.cluster_objects.specs.declared.objects.Write.{Write}
 use Rattle.object_store.specs.declared.cluster.PutAnswer.{PutAnswer}

@@ -1,4 +1,4 @@
-use Rattle.std.proofs.Common.{◌∷◌, [], ltb, subst, ℕ, List, length, refl, sym, ap, ◌∙◌, arith}
+use Rattle.std.proofs.Common.{ltb, subst, ℕ, List, length, refl, sym, ap, ◌∙◌, arith}
 use Rattle.object_store.proofs.Appending.{after_all-push, position-kept}
 use Rattle.std.proofs.lemmas.Bool.{le-ltb, lt-ltb}
 use Rattle.cluster_history.specs.History.{History, Start, After, Slots, empty, after_all, position, state, slot, slot_in}

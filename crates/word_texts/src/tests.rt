@@ -64,7 +64,7 @@ For more information, try '--help'.
 ";
 
 const NARROWER: &str =
-    "error: a word is empty, or begins with '-' and is no option right behind the command, or a number is more than digits with no zero first
+    "error: a word begins with '-' and is no option right behind the command, or a number is more than digits with no zero first
 
 For more information, try '--help'.
 ";

@@ -6,7 +6,7 @@ use std::alloc::{AllocError, Global};
 
 /// What is said where `clap` takes the words.
 const NARROWER: &str =
-    "error: a word is empty, or begins with '-' and is no option right behind the command, or a number is more than digits with no zero first\n\nFor more information, try '--help'.\n";
+    "error: a word begins with '-' and is no option right behind the command, or a number is more than digits with no zero first\n\nFor more information, try '--help'.\n";
 
 /// The help on the whole program.
 pub fn help_text(alloc: Global) -> Result<Text, Memory> {

@@ -1,10 +1,11 @@
 -- The line on `err` that tells the cause for which a run ended.
-use Rattle.std.specs.Prelude.{ℕ, List, [], ◌++◌, codes, Option, Some, None}
+use Rattle.std.specs.Prelude.{◌≡◌, ℕ, List, [], ◌++◌, codes, ⊤, Option, Some, None}
 use Rattle.std.specs.Fmt.{decimal}
 use Rattle.catalog_stream.specs.declared.blobs.StreamFault.{StreamFault}
 use Rattle.catalog_stream.specs.declared.blobs.StreamFault.TheVariants as stream
 use Rattle.olm_base.specs.declared.fields.FieldKind.{FieldKind}
 use Rattle.olm_base.specs.declared.fields.FieldKind.TheVariants as kind
+use Rattle.olm_io.specs.Outside.{AppendsFront}
 use Rattle.olm_cli.specs.declared.causes.Cause.{Cause}
 use Rattle.olm_cli.specs.declared.lines.Line.{Line}
 use Rattle.olm_cli.specs.declared.lines.Line.TheVariants.{Fixed, Made}
@@ -62,6 +63,15 @@ line_of cause = codes "olmctl: " ++ cause_text cause ++ codes "\n"
 abbrev pub told_line : Option Cause → List ℕ
 told_line None = []
 told_line (Some cause) = line_of cause
+
+-- any text may stand behind the line that the words are of no form, and nothing behind another
+abbrev pub MayFollow : Option Cause → List ℕ → Type 0
+MayFollow (Some BadWords) more = ⊤
+MayFollow end more = more ≡ []
+
+-- The held bytes grew by what is told of a run that ended so and what may follow it, or by a front of both.
+abbrev pub Tells : Option Cause → Option (List ℕ) → Option (List ℕ) → Type 0
+Tells end old new = (more : List ℕ) × MayFollow end more × AppendsFront old new (told_line end ++ more)
 
 -- the bytes of a line that code has
 abbrev pub line_bytes : Line → List ℕ

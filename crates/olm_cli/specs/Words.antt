@@ -22,6 +22,7 @@ pub data Task : Type 0 where
   Resolve : (budget : ℕ) (package_name channel : List ℕ) → Task
 
 pub data Command : Type 0 where
+  Help : Command
   OnCatalog : Place → Task → Command
   Verify : (path package_name channel : List ℕ) → Command
 
@@ -43,6 +44,7 @@ task_view (task.Graph names) = Graph names.package_name.now names.channel.now
 task_view (task.Resolve budget names) = Resolve budget names.package_name.now names.channel.now
 
 abbrev pub command_view : CommandWords → Command
+command_view words.Help = Help
 command_view (words.OnCatalog place task) = OnCatalog (place_view place) (task_view task)
 command_view (words.Verify path names) = Verify path.now names.package_name.now names.channel.now
 
@@ -108,6 +110,11 @@ verify_of (path ∷ package_name ∷ channel ∷ []) =
     if is_plain path && is_plain package_name && is_plain channel then Some (Verify path package_name channel) else None
 verify_of words = None
 
+-- the one word `--help`
+abbrev pub help_of : List (List ℕ) → Option Command
+help_of [] = Some Help
+help_of words = None
+
 -- The first word names the command, and the others must have its form. Other words are no command.
 abbrev pub command_of : List (List ℕ) → Option Command
 command_of [] = None
@@ -116,4 +123,5 @@ command_of (name ∷ words) =
     else if pointwise nat_eq name (codes "graph") then graph_of words
     else if pointwise nat_eq name (codes "resolve") then resolve_of words
     else if pointwise nat_eq name (codes "verify") then verify_of words
+    else if pointwise nat_eq name (codes "--help") then help_of words
     else None

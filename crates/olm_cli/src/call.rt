@@ -2,12 +2,12 @@
 ghost use Rattle.std.specs.Prelude.{◌≡◌, ◌≢◌, ◌↔◌, ◌≤◌, length, true, Some, None};
 ghost use Rattle.std.specs.declared.option.Option.{Option};
 ghost use Rattle.std.specs.Io.KnownBytes.{IsAtEnd};
-ghost use Rattle.olm_io.specs.Outside.{AppendsFront, HasCause, Rose};
+ghost use Rattle.olm_io.specs.Outside.{HasCause, Rose};
 ghost use Rattle.fbc_read.specs.Bodies.{input_limit};
 ghost use Rattle.olm_cli.specs.declared.causes.Cause.{Cause};
 ghost use Rattle.olm_cli.specs.Causes.{HasRisen, is_after_reading, is_answered, status_of};
 ghost use Rattle.olm_cli.specs.Commands as spec;
-ghost use Rattle.olm_cli.specs.Lines.{told_line};
+ghost use Rattle.olm_cli.specs.Lines.{Tells};
 ghost use Rattle.olm_cli.specs.Places.{is_folder, is_input};
 ghost use Rattle.olm_cli.specs.Runs.{Comes};
 ghost use Rattle.olm_cli.specs.Words.{command_of, place_view, task_view};
@@ -15,9 +15,10 @@ ghost use Rattle.olm_cli.specs.Words.{command_of, place_view, task_view};
 use crate::causes::{Cause, Exit, exit_of};
 use crate::checking::check_text;
 use crate::graph::graph_text;
-use crate::lines::tell_cause;
+use crate::helping::print_help;
 use crate::places::read_place;
 use crate::resolving::resolve_text;
+use crate::telling::tell_run;
 use crate::verifying::verify;
 use crate::words::{Command, Place, Task, command_of};
 use olm_base::{Bytes, Text};
@@ -84,6 +85,7 @@ fn run<F: Folder, S: Source, O: Sink>(
 {
     match command_of(words) {
         None => Some(Cause::BadWords),
+        Some(Command::Help) => print_help(alloc, out),
         Some(Command::OnCatalog { place, task }) => {
             run_catalog(alloc, place, task, folder, input, out)
         }
@@ -106,7 +108,7 @@ pub fn olmctl<F: Folder, S: Source, O: Sink, E: Sink>(
         ((spec.reads_folder (command_of words.now) ≡ true) × Rose (F.faults folder.old) (F.faults folder.new))
         ((spec.reads_input (command_of words.now) ≡ true) × Rose (S.faults input.old) (S.faults input.new))
         (Rose (O.faults out.old) (O.faults out.new)) end
-        × AppendsFront (E.held err.old) (E.held err.new) (told_line end) }
+        × Tells end (E.held err.old) (E.held err.new) }
     ensures words { (result ≡ Exit.Words) ↔ (command_of words.now ≡ None) }
     ensures same { F.held folder.new ≡ F.held folder.old }
     ensures end { is_answered result ≡ true → spec.reads_input (command_of words.now) ≡ true → IsAtEnd (S.left input.new) }
@@ -116,7 +118,7 @@ pub fn olmctl<F: Folder, S: Source, O: Sink, E: Sink>(
     match run(alloc, words, folder, input, out) {
         None => Exit::Done,
         Some(cause) => {
-            let told = tell_cause(alloc, cause, err);
+            let told = tell_run(alloc, words, cause, err);
             exit_of(&told)
         }
     }

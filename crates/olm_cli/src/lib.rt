@@ -10,11 +10,13 @@ mod call;
 mod causes;
 mod checking;
 mod graph;
+mod helping;
 mod lines;
 mod places;
 mod printing;
 mod reading;
 mod resolving;
+mod telling;
 #[cfg(test)]
 mod tests;
 mod verifying;

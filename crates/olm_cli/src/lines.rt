@@ -1,7 +1,7 @@
 // The line on `err`.
-ghost use Rattle.std.specs.Prelude.{◌≡◌, ◌≤◌, ◌⊎◌, ◌++◌, IfOk, OnOk, IsOk};
+ghost use Rattle.std.specs.Prelude.{◌≡◌, ◌≤◌, ◌⊎◌, ◌++◌, true, IfOk, OnOk, IsOk};
 ghost use Rattle.std.specs.Fmt.{decimal};
-ghost use Rattle.olm_io.specs.Outside.{AppendsFront};
+ghost use Rattle.olm_io.specs.Outside.{Appends, AppendsFront};
 ghost use Rattle.olm_cli.specs.declared.causes.Cause.{Cause};
 ghost use Rattle.olm_cli.specs.Lines as spec;
 
@@ -11,15 +11,16 @@ use olm_base::{FieldKind, Memory, Text};
 use olm_io::{Outage, Sink};
 use std::alloc::Global;
 
-/// Hands a line to the sink, whatever it answers.
-fn tell<E: Sink>(err: &mut E, line: &[u8])
+/// Hands a line to the sink, and says whether the whole was put.
+pub(crate) fn tell<E: Sink>(err: &mut E, line: &[u8]) -> bool
     ensures line { AppendsFront (E.held err.old) (E.held err.new) line.now }
+    ensures whole { result ≡ true → Appends (E.held err.old) (E.held err.new) line.now }
     ensures count { E.faults err.old ≤ E.faults err.new }
 {
     match err.put(line) {
-        Ok(()) => {}
-        Err(Outage::Failed) => {}
-        Err(Outage::Memory) => {}
+        Ok(()) => true,
+        Err(Outage::Failed) => false,
+        Err(Outage::Memory) => false,
     }
 }
 
@@ -186,11 +187,11 @@ pub fn tell_cause<E: Sink>(alloc: Global, cause: Cause, err: &mut E) -> Cause
 {
     match line_of(alloc, &cause) {
         Ok(line) => {
-            tell(err, line.as_bytes());
+            let _whole = tell(err, line.as_bytes());
             cause
         }
         Err(Memory) => {
-            tell(err, b"olmctl: out of memory\n");
+            let _whole = tell(err, b"olmctl: out of memory\n");
             Cause::NoMemory
         }
     }

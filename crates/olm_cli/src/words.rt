@@ -43,6 +43,8 @@ pub enum Task<'w> {
 /// A command, with the words that it is given.
 #[derive(Clone, Copy, Debug)]
 pub enum Command<'w> {
+    /// `--help`: prints how the program is used.
+    Help,
     OnCatalog {
         place: Place<'w>,
         task: Task<'w>,
@@ -222,6 +224,16 @@ fn verify_of(words: &[Text]) -> Option<Command<'_>>
     }
 }
 
+/// The one word `--help`.
+fn help_of(words: &[Text]) -> Option<Command<'_>>
+    ensures { option_map spec.command_view result ≡ spec.help_of words.now }
+{
+    match words {
+        [] => Some(Command::Help),
+        _ => None,
+    }
+}
+
 /// The command that the words stand for.
 pub fn command_of(words: &[Text]) -> Option<Command<'_>>
     ensures { option_map spec.command_view result ≡ spec.command_of words.now }
@@ -237,6 +249,8 @@ pub fn command_of(words: &[Text]) -> Option<Command<'_>>
                 resolve_of(rest)
             } else if name.as_slice() == b"verify".as_slice() {
                 verify_of(rest)
+            } else if name.as_slice() == b"--help".as_slice() {
+                help_of(rest)
             } else {
                 None
             }

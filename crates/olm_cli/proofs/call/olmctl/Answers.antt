@@ -8,8 +8,8 @@ use Rattle.olm_cli.proofs.call.olmctl.Goals as goal
 pub returns-in-Some-clause-run : goal.returns-in-Some-clause-run
 returns-in-Some-clause-run g c =
     let command = command_of c.args.words.now in
-    let told = c.tell_cause-told.result in
-    let same = c.tell_cause-told.ensures.cause in
+    let told = c.tell_run-told.result in
+    let same = c.tell_run-told.ensures.cause in
     let ran = c.in-Some.ensures in
     let folder = (reads_folder command ≡ true) × Rose (g.F.Folder.faults c.args.folder.now) (g.F.Folder.faults c.run.new.folder) in
     let input = (reads_input command ≡ true) × Rose (g.S.Source.faults c.args.input.now) (g.S.Source.faults c.run.new.input) in
@@ -19,5 +19,5 @@ returns-in-Some-clause-run g c =
       told_comes (Runs command (g.F.Folder.held c.args.folder.now) (g.S.Source.left c.args.input.now)) c.in-Some.cause told (g.O.Sink.held c.args.out.now) (g.O.Sink.held c.run.new.out) same ran.run,
       told_risen folder input output c.in-Some.cause told same
           (λ e. (ran.of_folder e, ran.folder.rose e)) (λ e. (ran.of_input e, ran.input.rose e)) ran.output.rose,
-      c.tell_cause-told.ensures.line,
+      c.tell_run-told.ensures.line,
     )

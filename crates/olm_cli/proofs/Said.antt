@@ -1,0 +1,24 @@
+-- What is told of a run: its line, and what may stand behind it.
+use Rattle.std.proofs.Common.{◌≡◌, List, ℕ, [], ◌++◌, append-nil, refl, sym, subst, Option, Some, None}
+use Rattle.olm_io.specs.Outside.{Appends, AppendsFront}
+use Rattle.olm_io.proofs.Told.{appends_no_front, then_front}
+use Rattle.olm_cli.specs.declared.causes.Cause.{Cause}
+use Rattle.olm_cli.specs.declared.causes.Cause.TheVariants.{BadWords}
+use Rattle.olm_cli.specs.Lines.{MayFollow, Tells, line_of, told_line}
+
+nothing_follows : (end : Option Cause) → MayFollow end []
+nothing_follows None = refl
+nothing_follows (Some BadWords) = tt
+nothing_follows (Some _) = refl
+
+-- the line alone
+pub line_tells : (end : Option Cause) (old new : Option (List ℕ)) → AppendsFront old new (told_line end) → Tells end old new
+line_tells end old new p = ([], nothing_follows end, subst (λ line. AppendsFront old new line) (sym (append-nil (told_line end))) p)
+
+-- nothing, of a run that is done
+pub nothing_tells : (known : Option (List ℕ)) → Tells None known known
+nothing_tells known = line_tells None known known (appends_no_front known [])
+
+-- the whole line that the words are of no form, and a front of a text
+pub words_tell : (old between new : Option (List ℕ)) (text : List ℕ) → Appends old between (line_of BadWords) → AppendsFront between new text → Tells (Some BadWords) old new
+words_tell old between new text whole front = (text, tt, then_front old between new (line_of BadWords) text whole front)

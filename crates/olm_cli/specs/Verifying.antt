@@ -4,7 +4,7 @@ use Rattle.answer_lines.specs.declared.verdicts.Checked.{Checked}
 use Rattle.catalog_choice.specs.Deciding.{IsVerified}
 use Rattle.problem_build.specs.declared.building.BuildFault.{BuildFault}
 use Rattle.olm_cli.specs.declared.causes.Cause.{Cause}
-use Rattle.olm_cli.specs.declared.causes.Cause.TheVariants.{NotAccepted}
+use Rattle.olm_cli.specs.declared.causes.Cause.TheVariants.{NotAccepted, SplitFile}
 use Rattle.olm_cli.specs.Places.{FolderHolds, InputHolds}
 use Rattle.olm_cli.specs.Reading.{valid_of}
 use Rattle.olm_cli.specs.Resolving.{problem_cause}
@@ -32,6 +32,15 @@ TextRuns package_name channel text certificate = After (valid_of text) (λ read.
 abbrev pub InputRuns : List ℕ → List ℕ → Option (List ℕ) → List ℕ → Ran → Type 0
 InputRuns package_name channel left text = AfterHeld (InputHolds left) (TextRuns package_name channel text)
 
+-- Where the folder gives no text, the run stops for its cause. That a file is no stream by itself is a fault of the texts, so the input is read before it is told.
+abbrev pub NoTextRuns : Option (List ℕ) → Cause → Ran → Type 0
+NoTextRuns left (SplitFile path fault) ran = AfterHeld (InputHolds left) (λ text ran. ran ≡ stopped (SplitFile path fault)) ran
+NoTextRuns left cause ran = ran ≡ stopped cause
+
 -- the catalog's text is that of the folder, which is read before the input
+abbrev pub FolderRuns : List ℕ → List ℕ → Option (List ℕ) → Result (List ℕ) Cause → Ran → Type 0
+FolderRuns package_name channel left (Ok text) ran = InputRuns package_name channel left text ran
+FolderRuns package_name channel left (Err cause) ran = NoTextRuns left cause ran
+
 abbrev pub VerifyRuns : List ℕ → List ℕ → List ℕ → Option (List (List ℕ × List ℕ)) → Option (List ℕ) → Ran → Type 0
-VerifyRuns path package_name channel files left = AfterHeld (FolderHolds path files) (InputRuns package_name channel left)
+VerifyRuns path package_name channel files left ran = (found : Result (List ℕ) Cause) × FolderHolds path files found × FolderRuns package_name channel left found ran

@@ -1,5 +1,5 @@
 // The top call.
-ghost use Rattle.std.specs.Prelude.{◌≡◌, ◌≢◌, ◌↔◌, ◌≤◌, length, true, Some, None};
+ghost use Rattle.std.specs.Prelude.{◌≡◌, ◌≢◌, ◌↔◌, ◌≤◌, length, true, false, Some, None};
 ghost use Rattle.std.specs.declared.option.Option.{Option};
 ghost use Rattle.std.specs.Io.KnownBytes.{IsAtEnd};
 ghost use Rattle.olm_io.specs.Outside.{HasCause, Rose};
@@ -57,6 +57,8 @@ fn run_catalog<F: Folder, S: Source, O: Sink>(
     ensures output { HasCause (O.faults out.old) (O.faults out.new) (result ≡ Some Cause.OutputFailed) }
     ensures of_folder { result ≡ Some Cause.FolderFailed → is_folder (place_view place.entry) ≡ true }
     ensures of_input { result ≡ Some Cause.InputFailed → is_input (place_view place.entry) ≡ true }
+    ensures untouched_folder { is_folder (place_view place.entry) ≡ false → folder.new ≡ folder.old }
+    ensures untouched_input { is_input (place_view place.entry) ≡ false → input.new ≡ input.old }
     ensures end { is_answered (status_of result) ≡ true → is_input (place_view place.entry) ≡ true → IsAtEnd (S.left input.new) }
 {
     match read_place(alloc, place, folder, input) {
@@ -81,6 +83,8 @@ fn run<F: Folder, S: Source, O: Sink>(
     ensures output { HasCause (O.faults out.old) (O.faults out.new) (result ≡ Some Cause.OutputFailed) }
     ensures of_folder { result ≡ Some Cause.FolderFailed → spec.reads_folder (command_of words.now) ≡ true }
     ensures of_input { result ≡ Some Cause.InputFailed → spec.reads_input (command_of words.now) ≡ true }
+    ensures untouched_folder { spec.reads_folder (command_of words.now) ≡ false → folder.new ≡ folder.old }
+    ensures untouched_input { spec.reads_input (command_of words.now) ≡ false → input.new ≡ input.old }
     ensures end { is_answered (status_of result) ≡ true → spec.reads_input (command_of words.now) ≡ true → IsAtEnd (S.left input.new) }
 {
     match command_of(words) {
@@ -111,6 +115,8 @@ pub fn olmctl<F: Folder, S: Source, O: Sink, E: Sink>(
         × Tells end (E.held err.old) (E.held err.new) }
     ensures words { (result ≡ Exit.Words) ↔ (command_of words.now ≡ None) }
     ensures same { F.held folder.new ≡ F.held folder.old }
+    ensures untouched_folder { spec.reads_folder (command_of words.now) ≡ false → folder.new ≡ folder.old }
+    ensures untouched_input { spec.reads_input (command_of words.now) ≡ false → input.new ≡ input.old }
     ensures end { is_answered result ≡ true → spec.reads_input (command_of words.now) ≡ true → IsAtEnd (S.left input.new) }
     ensures counts { (F.faults folder.old ≤ F.faults folder.new) × (S.faults input.old ≤ S.faults input.new)
         × (O.faults out.old ≤ O.faults out.new) × (E.faults err.old ≤ E.faults err.new) }

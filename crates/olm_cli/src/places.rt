@@ -1,5 +1,5 @@
 // Reading the text of the place where a catalog stands.
-ghost use Rattle.std.specs.Prelude.{List, ℕ, ◌≡◌, ◌≤◌, length, true, IfOk, IfErr, OnOk, IsErrOf};
+ghost use Rattle.std.specs.Prelude.{List, ℕ, ◌≡◌, ◌≤◌, length, true, false, IfOk, IfErr, OnOk, IsErrOf};
 ghost use Rattle.std.specs.declared.result.Result.{Result};
 ghost use Rattle.std.specs.Io.KnownBytes.{IsAtEnd};
 ghost use Rattle.olm_base.specs.Outcome.{Gives};
@@ -80,6 +80,8 @@ pub fn read_place<F: Folder, S: Source>(
     ensures input { HasCause (S.faults input.old) (S.faults input.new) (IsErrOf result Cause.InputFailed) }
     ensures of_folder { IsErrOf result Cause.FolderFailed → spec.is_folder (place_view place.entry) ≡ true }
     ensures of_input { IsErrOf result Cause.InputFailed → spec.is_input (place_view place.entry) ≡ true }
+    ensures untouched_folder { spec.is_folder (place_view place.entry) ≡ false → folder.new ≡ folder.old }
+    ensures untouched_input { spec.is_input (place_view place.entry) ≡ false → input.new ≡ input.old }
     ensures kind { IfErr result (λ cause. is_of_reading cause ≡ true) }
     ensures end { OnOk result (spec.is_input (place_view place.entry) ≡ true → IsAtEnd (S.left input.new)) }
 {

@@ -434,6 +434,13 @@ fn folders_are_read(rt: HostRuntime) -> Result<(), Fail> {
             "olmctl: x/b.json at 14: truncated\n",
         ),
         (
+            &["verify", "x", "c", "s"],
+            &[("x/a.json", "{}"), ("x/b.json", r#"{"schema":"x\""#)],
+            Exit::Input,
+            "",
+            "olmctl: x/b.json at 14: truncated\n",
+        ),
+        (
             &["resolve", "x", "c", "s"],
             &[("x/a.json", PACKAGE), ("x/b.json", "{}")],
             Exit::Input,
@@ -505,6 +512,7 @@ fn run_failing(
         ("all/a.json", PACKAGE),
         ("all/b.json", CHANNEL),
         ("all/c.json", BUNDLE),
+        ("split/a.json", "["),
     ];
     let (lists, reads, puts) = fails;
     let mut folder = MemFolder::new(files(alloc, &given)?, Many::from_vec(lists));
@@ -542,6 +550,13 @@ fn a_failing_call_is_named(rt: HostRuntime) -> Result<(), Fail> {
         (&all, &[4], &[0], &[0], "output"),
         (&verify, &[0], &[0], &[], "folder"),
         (&verify, &[4], &[0], &[0], "input"),
+        (
+            &["verify", "split", "argo", "stable"],
+            &[],
+            &[0],
+            &[],
+            "input",
+        ),
         (&verify, &[], &[], &[0], "output"),
         (RESOLVE, &[], &[0], &[], "input"),
         (RESOLVE, &[0], &[1], &[], "input"),

@@ -5,8 +5,9 @@ ghost use Rattle.olm_io.specs.Outside.{HasCause};
 ghost use Rattle.catalog_choice.specs.Deciding.{IsVerified};
 ghost use Rattle.fbc_read.specs.Bodies.{input_limit};
 ghost use Rattle.olm_cli.specs.declared.causes.Cause.{Cause};
-ghost use Rattle.olm_cli.specs.Causes.{is_after_reading, is_answered, is_free_end, status_of};
-ghost use Rattle.olm_cli.specs.Runs.{Comes};
+ghost use Rattle.olm_cli.specs.Causes.{is_after_reading, is_answered, is_free, is_free_end, is_of_reading, status_of};
+ghost use Rattle.olm_cli.specs.Places.{InputHolds, is_of_folder};
+ghost use Rattle.olm_cli.specs.Runs.{AfterHeld, Comes, stopped};
 ghost use Rattle.olm_cli.specs.Verifying as spec;
 
 use crate::causes::Cause;
@@ -115,6 +116,36 @@ fn verify_input<S: Source, O: Sink>(
     }
 }
 
+/// Reads the input, and answers the cause for which the run stops anyway, or that of the input.
+fn stop_behind_input<S: Source>(alloc: Global, cause: Cause, input: &mut S) -> Cause
+    requires of_folder { is_of_folder cause ≡ true }
+    ensures run { is_free result ≡ false → AfterHeld (InputHolds (S.left input.old)) (λ text ran. ran ≡ stopped cause) (stopped result) }
+    ensures folder { result ≡ Cause.FolderFailed → cause ≡ Cause.FolderFailed }
+    ensures input { HasCause (S.faults input.old) (S.faults input.new) (result ≡ Cause.InputFailed) }
+    ensures kind { is_of_reading result ≡ true }
+{
+    match read_input(alloc, input) {
+        Ok(_certificate) => cause,
+        Err(fault) => fault,
+    }
+}
+
+/// The cause for which a run stops whose folder gave no text, but this cause.
+fn stop_without_text<S: Source>(alloc: Global, cause: Cause, input: &mut S) -> Cause
+    requires of_folder { is_of_folder cause ≡ true }
+    ensures run { is_free result ≡ false → spec.NoTextRuns (S.left input.old) cause (stopped result) }
+    ensures folder { result ≡ Cause.FolderFailed → cause ≡ Cause.FolderFailed }
+    ensures input { HasCause (S.faults input.old) (S.faults input.new) (result ≡ Cause.InputFailed) }
+    ensures kind { is_of_reading result ≡ true }
+{
+    match cause {
+        Cause::SplitFile { path, fault } => {
+            stop_behind_input(alloc, Cause::SplitFile { path, fault }, input)
+        }
+        cause => cause,
+    }
+}
+
 /// Reads the folder's catalog and then the input, and prints what the input shows of the catalog's problem.
 pub fn verify<F: Folder, S: Source, O: Sink>(
     alloc: Global,
@@ -134,6 +165,6 @@ pub fn verify<F: Folder, S: Source, O: Sink>(
 {
     match read_folder(alloc, path, folder) {
         Ok(text) => verify_input(alloc, text, names, input, out),
-        Err(cause) => Some(cause),
+        Err(cause) => Some(stop_without_text(alloc, cause, input)),
     }
 }

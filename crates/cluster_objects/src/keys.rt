@@ -1,9 +1,10 @@
 // Keys, under which objects stand, and stamps, which the writes of a plan's steps carry.
 ghost use Rattle.std.specs.Prelude.{◌≡◌, ◌++◌, OnOk};
-ghost use Rattle.cluster_objects.specs.Keys.{printed};
+ghost use Rattle.cluster_objects.specs.Keys.{key_cmp, printed};
 
 use olm_base::{Memory, Name, Text};
 use std::alloc::AllocError;
+use std::cmp::Ordering;
 
 /// Where an object stands. The group and the namespace may be empty. Keys are ordered by group, kind, namespace
 /// and name, each by its bytes.
@@ -21,6 +22,13 @@ pub struct Stamp {
     pub namespace: Name,
     pub plan: u64,
     pub step: u64,
+}
+
+/// Which of two keys comes first, and Equal exactly where they are one. It is the order of a cluster's state.
+pub fn compare_keys(key: &Key, other: &Key) -> Ordering
+    ensures { result ≡ key_cmp key.now other.now }
+{
+    key.cmp(other)
 }
 
 /// Appends the key's printed form, `GROUP/KIND/NAMESPACE/NAME` with an empty part as nothing. After want of memory

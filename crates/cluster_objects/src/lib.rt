@@ -12,7 +12,7 @@ mod plans;
 mod resolutions;
 mod statuses;
 
-pub use keys::{Key, Stamp, print_key};
+pub use keys::{Key, Stamp, compare_keys, print_key};
 pub use kinds::{
     has_kind, is_catalog_key, is_crd_key, is_csv_key, is_deployment_key, is_plan_key,
     is_resolution_key, is_subscription_key, status_of,

@@ -1,5 +1,6 @@
 -- What a problem keeps of a constraint.
 use Rattle.std.proofs.Common.{◌≡◌, ℕ, ◌+◌, ◌<◌, ◌≤◌, Bool, true, false, not, cond, ◌||◌, List, [], ◌∷◌, ◌++◌, refl, sym, ap, ◌∙◌, arith, inl, inr, length, map, take, get_or, eqb}
+use Rattle.std.proofs.Math.Bool.{or-false}
 use Rattle.std.specs.List.{filter, AllByRecursion}
 use Rattle.std.proofs.lemmas.Bool.{cases_Bool, cases_eq, or_cases, or_left, or_right, or_from, or_parts, and_from, and_parts, eqb-true, eq-eqb, ne_eqb, not-true, not-false, not_from_false, not_from_true, both_ways, cond-true, cond-false}
 use Rattle.std.proofs.lemmas.List.Elements.{filter-append}
@@ -149,17 +150,13 @@ IsKept-push problem cs h room few small =
       distinct_members = all-push (λ ds. AllByRecursion HasDistinctMembers ds) problem (map kept cs) h.distinct_members (all-kept-distinct cs);
     }
 
-or_false : (b : Bool) → (b || false) ≡ b
-or_false true = refl
-or_false false = refl
-
 -- one step of going over the members: those seen, and those kept
 pub seen_more : (vs : List ℕ) (i v q : ℕ) (b : Bool) → i < length vs → v ≡ get_or vs i v → b ≡ is_among (take i vs) q → cond (eqb v q) true b ≡ is_among (take (i + 1) vs) q
 seen_more vs i v q b h is e =
     let more : is_among (take (i + 1) vs) q ≡ (is_among (take i vs) q || eqb v q) = list_any_more (λ w. eqb w q) vs i v h ∙ ap (λ u. is_among (take i vs) q || eqb u q) (sym is) in
     elim (cases_Bool (eqb v q)) [
       | inl here ↦ cond-true (eqb v q) true b here ∙ sym (more ∙ or_right (is_among (take i vs) q) (eqb v q) here)
-      | inr other ↦ cond-false (eqb v q) true b other ∙ (e ∙ sym (more ∙ (ap (λ t. is_among (take i vs) q || t) other ∙ or_false (is_among (take i vs) q))))
+      | inr other ↦ cond-false (eqb v q) true b other ∙ (e ∙ sym (more ∙ (ap (λ t. is_among (take i vs) q || t) other ∙ or-false (is_among (take i vs) q))))
     ]
 
 pub once_more-new : (vs once : List ℕ) (i v : ℕ) (b fresh : Bool) → i < length vs → v ≡ get_or vs i v → once ≡ each_once (take i vs) → b ≡ is_among (take i vs) v → fresh ≡ not b → fresh ≡ true → once ++ v ∷ [] ≡ each_once (take (i + 1) vs)

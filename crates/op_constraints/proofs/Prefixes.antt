@@ -1,7 +1,9 @@
 -- Walks and their prefixes, and the walk of zeros.
 use Rattle.std.proofs.Common.{◌≡◌, ℕ, zero, suc, ◌<◌, List, [], ◌∷◌, ◌++◌, refl, sym, ap, ◌∙◌, subst, arith, inl, inr, Option, Some, None, length, take, drop, get_or, slice_get, append_assoc, drop-cons}
+use Rattle.std.proofs.Math.Seq.{drop-append_seam}
 use Rattle.std.specs.Option.{option_and_then, option_map, option_map_or}
 use Rattle.std.proofs.lemmas.List.{length-append, append-nil, take-append-drop}
+use Rattle.std.proofs.lemmas.Option.{slice_get_within}
 use Rattle.op_constraints.specs.declared.Constraint.{Constraint}
 use Rattle.op_constraints.specs.Walks.{mandatory, waiting, first_of, choice, member, walk_from, walk, picks, zeros, IsFull, IsBefore, IsBest, IsFirstWalk, Succeeds}
 use Rattle.op_constraints.proofs.WalkLaws.{under}
@@ -30,14 +32,9 @@ under-map problem number (Some chosen) = map-then (member (waiting problem chose
 pub goes_on : (problem : List (List Constraint)) (numbers : List ℕ) (number : ℕ) → walk problem (numbers ++ number ∷ []) ≡ option_and_then (λ chosen. option_map (λ v. chosen ++ v ∷ []) (member (waiting problem chosen) number)) (walk problem numbers)
 goes_on problem numbers number = walk-step problem numbers number ∙ under-map problem number (walk problem numbers)
 
-get-below : (xs : List ℕ) (k v : ℕ) → slice_get xs k ≡ Some v → k < length xs
-get-below [] k v e = absurd (let bad : None ≡ Some v = e in cc)
-get-below (x ∷ xs) zero v e = omega arith
-get-below (x ∷ xs) (suc k) v e = let rest = get-below xs k v e in omega (arith, rest)
-
 member-below : (lists : List (List ℕ)) (k v : ℕ) → member lists k ≡ Some v → k < length (first_of lists)
 member-below [] k v e = absurd (let bad : None ≡ Some v = e in cc)
-member-below (ms ∷ lists) k v e = get-below ms k v e
+member-below (ms ∷ lists) k v e = slice_get_within ms k v e
 
 member-none : (lists : List (List ℕ)) (k : ℕ) → first_of lists ≡ [] → member lists k ≡ None
 member-none [] k e = refl
@@ -72,15 +69,11 @@ picked_from problem chosen (k ∷ ks) end w =
     let (rest, same, size) = picked_from problem (chosen ++ v ∷ []) ks end later in
     (v ∷ rest, same ∙ append_assoc chosen (v ∷ []) rest, ap suc size)
 
-drop-append : (xs ys : List ℕ) → drop (length xs) (xs ++ ys) ≡ ys
-drop-append [] ys = refl
-drop-append (x ∷ xs) ys = drop-append xs ys
-
 pub chosen_are_picked : (problem : List (List Constraint)) (numbers chosen : List ℕ) → walk problem numbers ≡ Some chosen → (chosen ≡ mandatory problem ++ picks problem numbers) × (length (picks problem numbers) ≡ length numbers)
 chosen_are_picked problem numbers chosen w =
     let m = mandatory problem in
     let (rest, same, size) = picked_from problem m numbers chosen w in
-    let is : picks problem numbers ≡ rest = ap (λ (o : Option (List ℕ)). option_map_or (λ vs. drop (length m) vs) o []) w ∙ (ap (drop (length m)) same ∙ drop-append m rest) in
+    let is : picks problem numbers ≡ rest = ap (λ (o : Option (List ℕ)). option_map_or (λ vs. drop (length m) vs) o []) w ∙ (ap (drop (length m)) same ∙ drop-append_seam m rest) in
     (same ∙ ap (λ vs. m ++ vs) (sym is), ap length is ∙ size)
 
 -- Zeros

@@ -1,6 +1,7 @@
 -- What a walk keeps as it begins, takes a number and gives one back.
 use Rattle.std.proofs.Common.{◌≡◌, ℕ, zero, suc, ◌<◌, ◌≤◌, Bool, true, false, not, ◌||◌, List, [], ◌∷◌, ◌++◌, refl, sym, ap, ◌∙◌, arith, inl, inr, length, get_or, set, eqb, replicate}
 use std.Path.{fun_ext}
+use Rattle.std.proofs.Math.Bool.{or-false}
 use Rattle.std.specs.List.{list_any, AllByRecursion, IsDistinct}
 use Rattle.std.proofs.lemmas.Bool.{cases_eq, or_cases, or_left, or_right, or_from, or_parts, and_from, and_parts, eqb-true, eq-eqb, ne_eqb, not-true, not_from_false, both_ways}
 use Rattle.std.proofs.lemmas.List.{get_or-set_same, get_or-set_other}
@@ -12,10 +13,6 @@ use Rattle.op_constraints.specs.Kept.{is_distinct}
 use Rattle.op_constraints.specs.WalkInvariant.{rest}
 
 -- Sets of bits
-
-or_false : (b : Bool) → (b || false) ≡ b
-or_false true = refl
-or_false false = refl
 
 none_of : (n w : ℕ) → at (replicate n false) w ≡ false
 none_of zero w = refl
@@ -33,7 +30,7 @@ added bits vs v w h e =
           ∙ sym (among-push vs v w ∙ or_right (is_among vs w) (eqb v w || false) (or_left (eqb v w) false (eq-eqb v w (sym same)))))
       | inr other ↦
           (let apart : (eqb v w || false) ≡ false = or_from (eqb v w) false (ne_eqb v w (λ e. other (sym e))) refl in
-          get_or-set_other bits v w true false other ∙ (e ∙ sym (among-push vs v w ∙ (ap (λ b. is_among vs w || b) apart ∙ or_false (is_among vs w)))))
+          get_or-set_other bits v w true false other ∙ (e ∙ sym (among-push vs v w ∙ (ap (λ b. is_among vs w || b) apart ∙ or-false (is_among vs w)))))
     ]
 
 -- one bit more stands for one variable more
@@ -47,7 +44,7 @@ removed bits vs v w h gone e =
           ap (λ u. get_or (set bits v false) u false) same ∙ (get_or-set_same bits v false false h ∙ (sym gone ∙ ap (is_among vs) (sym same)))
       | inr other ↦
           (let apart : (eqb v w || false) ≡ false = or_from (eqb v w) false (ne_eqb v w (λ e. other (sym e))) refl in
-          get_or-set_other bits v w false false other ∙ (e ∙ (among-push vs v w ∙ (ap (λ b. is_among vs w || b) apart ∙ or_false (is_among vs w)))))
+          get_or-set_other bits v w false false other ∙ (e ∙ (among-push vs v w ∙ (ap (λ b. is_among vs w || b) apart ∙ or-false (is_among vs w)))))
     ]
 
 -- one bit less stands for one variable less

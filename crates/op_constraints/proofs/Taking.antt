@@ -35,7 +35,7 @@ none-at f (w ∷ ws) zero v e h is = let (a, b) = or_parts (f w) (list_any f ws)
 none-at f (w ∷ ws) (suc k) v e h is = let (a, b) = or_parts (f w) (list_any f ws) e in none-at f ws k v b (omega arith) is
 
 -- and variables that are there
-within-place : (n : ℕ) (cs : List Constraint) (k : ℕ) (c : Constraint) → AllByRecursion (λ c. IsWithin n c) cs → slice_get cs k ≡ Some c → IsWithin n c
+pub within-place : (n : ℕ) (cs : List Constraint) (k : ℕ) (c : Constraint) → AllByRecursion (λ c. IsWithin n c) cs → slice_get cs k ≡ Some c → IsWithin n c
 within-place n [] k c h at = absurd (let bad : None ≡ Some c = at in cc)
 within-place n (d ∷ ds) zero c h at = let same : d ≡ c = cc in subst (λ (x : Constraint). IsWithin n x) same h.0
 within-place n (d ∷ ds) (suc k) c h at = within-place n ds k c h.1 at

@@ -164,7 +164,7 @@ trying-back problem same tries bits back chosen fewer numbers longer count kept 
 
 -- The walk with a number more
 
-some-there : (ks : List ℕ) (k : ℕ) → ks ++ k ∷ [] ≡ [] → ⊥
+pub some-there : (ks : List ℕ) (k : ℕ) → ks ++ k ∷ [] ≡ [] → ⊥
 some-there [] k e = (let bad : (k ∷ []) ≡ [] = e in cc)
 some-there (j ∷ js) k e = (let bad : (j ∷ (js ++ k ∷ [])) ≡ [] = e in cc)
 

@@ -1,8 +1,6 @@
 //! The best walk, found by trying the partial walks in their order.
 
 ghost use Rattle.std.specs.Prelude.{◌≡◌, ℕ, [], ◌∷◌, ◌++◌, ◌<◌, ◌≤◌, length, slice_set, true, IfOk, OnOk, IfNone, IfSome, IsTrue, ◌↔◌, List};
-ghost use Rattle.std.specs.List.{AllByRecursion};
-ghost use Rattle.std.specs.Option.{option_copied};
 ghost use Rattle.op_constraints.specs.declared.TheConstants.{VAR_LIMIT};
 ghost use Rattle.op_constraints.specs.Meets.{IsClosed};
 ghost use Rattle.op_constraints.specs.Walks.{waiting, member, Succeeds};

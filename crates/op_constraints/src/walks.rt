@@ -1,8 +1,8 @@
 //! Walks over a problem.
 
-ghost use Rattle.std.specs.Prelude.{◌≡◌, ℕ, [], ◌∷◌, ◌++◌, ◌<◌, ◌≤◌, ◌+◌, suc, IfOk, IfNone, IfSome, Some, None, MatchOption, length, slice_get, drop, Bool, List, true, false, vec_capacity, IsTrue, ◌↔◌};
+ghost use Rattle.std.specs.Prelude.{◌≡◌, ℕ, [], ◌∷◌, ◌<◌, ◌≤◌, ◌+◌, suc, IfOk, IfNone, IfSome, Some, None, length, drop, List, true, false, vec_capacity, IsTrue, ◌↔◌};
 ghost use Rattle.std.specs.List.{AllByRecursion, list_any};
-ghost use Rattle.op_constraints.specs.Meets.{at, constraints_of, IsWithin, IsClosed};
+ghost use Rattle.op_constraints.specs.Meets.{at, IsWithin, IsClosed};
 ghost use Rattle.op_constraints.specs.Walks.{is_among, is_mandatory, waiting, choice, walk, passed, dependencies, mandatory, begun, taken, IsFirstWalk};
 
 use crate::sets::has_any;

@@ -1,16 +1,16 @@
 -- The lines of a channel, by the entries that were looked up.
 use Rattle.std.proofs.Common.{◌≡◌, ℕ, Bool, true, false, List, [], ◌∷◌, ◌++◌, Option, None, Some, refl, sym, ap, ◌∙◌, cond, map}
-use Rattle.std.specs.Prelude.{codes, slice_get}
+use Rattle.std.specs.Prelude.{codes}
 use Rattle.std.specs.List.{flat_map}
 use Rattle.std.specs.Option.{option_and_then, option_map, option_map_or, unwrap_or}
 use Rattle.std.proofs.lemmas.List.Folds.{flat_map-map}
 use Rattle.semver.specs.Parse.{Parts}
 use Rattle.version_ranges.specs.Words.{version_of}
-use Rattle.fbc_types.specs.Texts.{is_among, own_versions}
+use Rattle.fbc_types.specs.Texts.{is_among, own_version, version_in}
 use Rattle.fbc_types.specs.declared.catalog.Bundle.{Bundle}
 use Rattle.fbc_types.specs.declared.catalog.Catalog.{Catalog}
 use Rattle.fbc_types.specs.declared.catalog.Entry.{Entry}
-use Rattle.upgrade_graph.specs.Order.{bundle_named, names, ordered, version_in, version_named}
+use Rattle.upgrade_graph.specs.Order.{bundle_named, names, ordered, version_named}
 use Rattle.upgrade_graph.specs.Upgrades.{upgrades, upgrades_among}
 use Rattle.upgrade_graph.proofs.Placing.{order_is, upgrades_are}
 use Rattle.catalog_lines.specs.Lines.{channel_lines, entry_line, entry_lines, sources, upgrades_from, version_text}
@@ -38,19 +38,19 @@ module _ (catalog : Catalog) (owner channel : List ℕ) (bundle_of : List ℕ �
   by_text name None = refl
   by_text name (Some text) = by_version name (version_of text)
 
-  by_bundle : (name : List ℕ) (bundle : Option Bundle) → option_map_or (upgrades_at entries name) (option_and_then (λ bundle. slice_get (own_versions bundle) 0) bundle) [] ≡ option_map_or (upgrades catalog owner channel name) (option_and_then version_in bundle) []
+  by_bundle : (name : List ℕ) (bundle : Option Bundle) → option_map_or (upgrades_at entries name) (option_and_then own_version bundle) [] ≡ option_map_or (upgrades catalog owner channel name) (option_and_then version_in bundle) []
   by_bundle name None = refl
-  by_bundle name (Some bundle) = by_text name (slice_get (own_versions bundle) 0)
+  by_bundle name (Some bundle) = by_text name (own_version bundle)
 
   -- the version of an entry that was looked up
   node_version : (name : List ℕ) → (node bundle_of entries name).version ≡ version_text catalog owner name
-  node_version name = ap (λ bundle. unwrap_or (option_and_then (λ (bundle : Bundle). slice_get (own_versions bundle) 0) bundle) []) (bundles name)
+  node_version name = ap (λ bundle. unwrap_or (option_and_then own_version bundle) []) (bundles name)
 
   -- its upgrades
   node_upgrades : (name : List ℕ) → (node bundle_of entries name).upgrades ≡ upgrades_from catalog owner channel name
   unfolding version_named
   node_upgrades name =
-      ap (λ bundle. option_map_or (upgrades_at entries name) (option_and_then (λ (bundle : Bundle). slice_get (own_versions bundle) 0) bundle) []) (bundles name)
+      ap (λ bundle. option_map_or (upgrades_at entries name) (option_and_then own_version bundle) []) (bundles name)
       ∙ by_bundle name (bundle_named catalog.bundles owner name)
 
   source_words : (name : List ℕ) (all : List (List ℕ)) → flat_map (λ other. source_word name (node bundle_of entries other)) all ≡ flat_map (λ (other : List ℕ). codes " " ++ other) (sources catalog owner channel all name)

@@ -1,10 +1,10 @@
 -- What is printed of a catalog: how much it holds, which rules it breaks, and the upgrades in a channel.
-use Rattle.std.specs.Prelude.{ℕ, ◌&&◌, if◌then◌else◌, List, [], ◌++◌, codes, length, filter, Option, None, Some, slice_get}
+use Rattle.std.specs.Prelude.{ℕ, ◌&&◌, if◌then◌else◌, List, [], ◌++◌, codes, length, filter, Option, None, Some}
 use Rattle.std.specs.Fmt.{decimal}
 use Rattle.std.specs.List.{flat_map}
 use Rattle.std.specs.Option.{option_and_then, option_map, option_map_or, unwrap_or}
 use Rattle.olm_base.specs.Names.{is_name}
-use Rattle.fbc_types.specs.Texts.{is_among, own_versions}
+use Rattle.fbc_types.specs.Texts.{is_among, own_version}
 use Rattle.fbc_types.specs.declared.catalog.Catalog.{Catalog}
 use Rattle.fbc_types.specs.declared.fault.CheckFault.{CheckFault}
 use Rattle.upgrade_graph.specs.Order.{bundle_named, order, version_named}
@@ -33,7 +33,7 @@ fault_lines faults = flat_map fault_line faults
 -- The text of the version that the bundle of this package and name gives for its package. In a valid catalog each entry has one.
 abbrev pub version_text : Catalog → List ℕ → List ℕ → List ℕ
 version_text catalog owner name =
-    unwrap_or (option_and_then (λ bundle. slice_get (own_versions bundle) 0) (bundle_named catalog.bundles owner name)) []
+    unwrap_or (option_and_then own_version (bundle_named catalog.bundles owner name)) []
 
 -- The upgrades in a channel from the bundle of this name, at its own version.
 abbrev pub upgrades_from : Catalog → List ℕ → List ℕ → List ℕ → List (List ℕ)

@@ -1,11 +1,11 @@
 -- The entries of a channel as the code keeps them, each with the text of its version and its upgrades.
-use Rattle.std.specs.Prelude.{◌≡◌, ℕ, if◌then◌else◌, List, [], ◌++◌, codes, Option, None, Some, slice_get}
+use Rattle.std.specs.Prelude.{◌≡◌, ℕ, if◌then◌else◌, List, [], ◌++◌, codes, Option, None, Some}
 use Rattle.std.specs.List.{flat_map}
 use Rattle.std.specs.Option.{option_and_then, option_map_or, unwrap_or}
 use Rattle.olm_base.specs.Names.{is_name}
 use Rattle.name_tables.specs.Sets.{has}
 use Rattle.version_ranges.specs.Words.{version_of}
-use Rattle.fbc_types.specs.Texts.{is_among, own_versions}
+use Rattle.fbc_types.specs.Texts.{is_among, own_version}
 use Rattle.fbc_types.specs.declared.catalog.Bundle.{Bundle}
 use Rattle.fbc_types.specs.declared.catalog.Entry.{Entry}
 use Rattle.upgrade_graph.specs.Order.{names}
@@ -15,7 +15,7 @@ use Rattle.catalog_lines.specs.declared.sources.Source.{Source}
 
 -- The text of the version that the bundle of this name gives for its package, where names have bundles.
 abbrev pub text_named : (List ℕ → Option Bundle) → List ℕ → Option (List ℕ)
-text_named bundle_of name = option_and_then (λ bundle. slice_get (own_versions bundle) 0) (bundle_of name)
+text_named bundle_of name = option_and_then own_version (bundle_of name)
 
 -- The upgrades among the entries of a channel in channel order, from the name and the text of a version.
 abbrev pub upgrades_at : List Entry → List ℕ → List ℕ → List (List ℕ)

@@ -6,12 +6,12 @@ ghost use Rattle.version_ranges.specs.Words.{version_of};
 ghost use Rattle.upgrade_graph.specs.Tables.{under};
 ghost use Rattle.catalog_lines.specs.Nodes as spec;
 
-use fbc_types::Bundle;
+use fbc_types::{Bundle, own_version};
 use olm_base::{Many, Memory, Name, Text};
 use semver::{Error, Version};
 use std::alloc::{AllocError, Global};
 use std::collections::BTreeMap;
-use upgrade_graph::{ChannelOrder, own_version};
+use upgrade_graph::ChannelOrder;
 
 /// An entry of a channel: its name, the text of its version, and the names of the channel that it can be upgraded to.
 #[derive(Debug, Drop)]

@@ -1,4 +1,3 @@
-mod Nested
 mod Sole
 mod Steps
 mod Twice

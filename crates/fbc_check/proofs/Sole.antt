@@ -1,33 +1,14 @@
 -- Channels with one head.
-use Rattle.std.proofs.Common.{◌≡◌, ℕ, ◌==◌, ◌&&◌, ◌||◌, suc, Bool, true, false, not, cond, List, [], ◌∷◌, ◌++◌, length, filter, append-nil, Option, Some, None, refl, sym, ap, ◌∙◌, arith, if◌then◌else◌}
-use Rattle.std.specs.List.{find, flat_map, list_any}
-use Rattle.std.specs.Option.{option_map_or}
+use Rattle.std.proofs.Common.{◌≡◌, ℕ, ◌==◌, ◌&&◌, ◌||◌, suc, Bool, true, false, not, cond, List, [], ◌∷◌, ◌++◌, length, append-nil, refl, sym, ap, ◌∙◌, arith, if◌then◌else◌}
+use Rattle.std.specs.List.{flat_map, list_any}
 use Rattle.std.proofs.lemmas.Bool.{ne_eqb}
-use Rattle.fbc_types.specs.Channels.{heads, is_head, chain, has_name, has_name_twice, skips}
+use Rattle.fbc_types.specs.Channels.{heads, chain, has_name, has_name_twice, skips}
 use Rattle.fbc_types.specs.Rules.{by_head, circle, stranded, stranded_entry, where_broken, of_channel, of_entry}
 use Rattle.fbc_types.specs.declared.catalog.Entry.{Entry}
 use Rattle.fbc_types.specs.declared.catalog.Channel.{Channel}
 use Rattle.fbc_types.specs.declared.fault.CheckFault.{CheckFault}
 use Rattle.upgrade_graph.specs.Order.{main_chain}
-
-abbrev first_of : List Entry → Option Entry
-first_of [] = None
-first_of (entry ∷ entries) = Some entry
-
-first_by : (b : Bool) (entry : Entry) (found : Option Entry) (rest : List Entry) → found ≡ first_of rest → cond b (Some entry) found ≡ first_of (cond b (entry ∷ rest) rest)
-first_by true entry found rest h = refl
-first_by false entry found rest h = h
-
--- the first that passes is the first of those that pass
-find_first : (test : Entry → Bool) (entries : List Entry) → find test entries ≡ first_of (filter test entries)
-find_first test [] = refl
-find_first test (entry ∷ entries) = first_by (test entry) entry (find test entries) (filter test entries) (find_first test entries)
-
--- the chain of the only head
-main_of_sole : (entries : List Entry) (head : Entry) → heads entries ≡ head ∷ [] → main_chain entries ≡ chain entries head
-unfolding main_chain
-main_of_sole entries head h =
-    ap (λ found. option_map_or (chain entries) found []) (find_first (is_head entries) entries ∙ ap first_of h)
+use Rattle.upgrade_graph.proofs.Once.{main_chain_is}
 
 and_false : (b : Bool) → (b && false) ≡ false
 and_false true = refl
@@ -45,7 +26,7 @@ circle_by : (blob : Channel) (found : List Entry) → found ≡ main_chain blob.
     ≡ where_broken (has_name_twice found && (length hs == 1)) (of_channel 11 blob)
 circle_by blob found is [] h = sym (ap (λ b. where_broken b (of_channel 11 blob)) (and_false (has_name_twice found)))
 circle_by blob found is (head ∷ []) h =
-    let same : found ≡ chain blob.entries head = is ∙ main_of_sole blob.entries head h in
+    let same : found ≡ chain blob.entries head = is ∙ main_chain_is blob.entries head h in
     sym (ap (λ b. where_broken b (of_channel 11 blob)) (and_true (has_name_twice found) ∙ ap has_name_twice same))
 circle_by blob found is (head ∷ other ∷ others) h =
     sym (ap (λ b. where_broken b (of_channel 11 blob)) (ap (λ b. has_name_twice found && b) (not_one head other others) ∙ and_false (has_name_twice found)))
@@ -71,7 +52,7 @@ unless_twice blob head found is once =
 stranded_by : (blob : Channel) (found : List Entry) → found ≡ main_chain blob.entries → has_name_twice found ≡ false → (hs : List Entry) → heads blob.entries ≡ hs → (length hs == 1) ≡ true
     → stranded_of blob hs ≡ unreached blob found
 stranded_by blob found is once [] h one = absurd (let bad : false ≡ true = one in cc)
-stranded_by blob found is once (head ∷ []) h one = unless_twice blob head found (is ∙ main_of_sole blob.entries head h) once
+stranded_by blob found is once (head ∷ []) h one = unless_twice blob head found (is ∙ main_chain_is blob.entries head h) once
 stranded_by blob found is once (head ∷ other ∷ others) h one = absurd (let bad : false ≡ true = sym (not_one head other others) ∙ one in cc)
 
 stranded_is : (blob : Channel) (found : List Entry) → found ≡ main_chain blob.entries → has_name_twice found ≡ false → (length (heads blob.entries) == 1) ≡ true
@@ -92,7 +73,7 @@ none_without_head blob old count counted one = nothing_more old (stranded blob) 
 circle_none_by : (blob : Channel) (found : List Entry) → found ≡ main_chain blob.entries → has_name_twice found ≡ true → (hs : List Entry) → heads blob.entries ≡ hs → stranded_of blob hs ≡ []
 circle_none_by blob found is twice [] h = refl
 circle_none_by blob found is twice (head ∷ []) h =
-    let same : found ≡ chain blob.entries head = is ∙ main_of_sole blob.entries head h in
+    let same : found ≡ chain blob.entries head = is ∙ main_chain_is blob.entries head h in
     ap (λ b. cond b [] (flat_map (stranded_entry blob head) blob.entries)) (ap has_name_twice (sym same) ∙ twice)
 circle_none_by blob found is twice (head ∷ other ∷ others) h = refl
 

@@ -52,7 +52,7 @@ fn one_has_bad_range(alloc: Global, constraints: &[RawConstraint]) -> Result<boo
 }
 
 #[cycle(nested)]
-#[tactic(auto, using(crate::proofs::Nested::bad_package, crate::proofs::Nested::bad_kind, crate::proofs::Nested::bad_all, crate::proofs::Nested::bad_any, crate::proofs::Nested::bad_not, crate::proofs::Nested::bad_cel, crate::proofs::Nested::bad_unknown))]
+#[tactic(auto, using(fbc_types::proofs::Nested::bad_package, fbc_types::proofs::Nested::bad_kind, fbc_types::proofs::Nested::bad_all, fbc_types::proofs::Nested::bad_any, fbc_types::proofs::Nested::bad_not, fbc_types::proofs::Nested::bad_cel, fbc_types::proofs::Nested::bad_unknown))]
 fn has_bad_range(alloc: Global, constraint: &RawConstraint) -> Result<bool, Memory>
     ensures { IfOk result (λ bad. bad ≡ spec.has_bad_range constraint.now) }
 {

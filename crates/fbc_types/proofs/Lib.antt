@@ -1,2 +1,3 @@
-mod Lists
+pub mod Lists
+pub mod Nested
 mod Valid

@@ -1,9 +1,10 @@
 -- The texts of versions and ranges in a catalog.
-use Rattle.std.specs.Prelude.{ℕ, Bool, false, not, nat_eq, if◌then◌else◌, List, [], ◌∷◌}
+use Rattle.std.specs.Prelude.{ℕ, Bool, false, not, nat_eq, if◌then◌else◌, List, [], ◌∷◌, Option, slice_get}
 use Rattle.std.specs.Cmp.Lexicographic.{pointwise}
 use Rattle.std.specs.List.{flat_map, list_any}
-use Rattle.std.specs.Option.{is_some}
+use Rattle.std.specs.Option.{is_some, option_and_then}
 use Rattle.std.specs.Result.{is_ok}
+use Rattle.semver.specs.Parse.{Parts}
 use Rattle.version_ranges.specs.Reading.{reading}
 use Rattle.version_ranges.specs.Words.{version_of}
 use Rattle.fbc_types.specs.declared.catalog.Bundle.{Bundle}
@@ -64,3 +65,11 @@ versions_for name (property.Other label) = []
 -- The version texts that a bundle gives for its own package.
 abbrev pub own_versions : Bundle → List (List ℕ)
 own_versions bundle = flat_map (versions_for bundle.«package») bundle.properties
+
+-- The version text that a bundle gives for its own package, the first. By the rules there is exactly one.
+abbrev pub own_version : Bundle → Option (List ℕ)
+own_version bundle = slice_get (own_versions bundle) 0
+
+-- The version that this text writes. By the rules there is one.
+abbrev pub version_in : Bundle → Option Parts
+version_in bundle = option_and_then version_of (own_version bundle)

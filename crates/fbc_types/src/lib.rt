@@ -10,6 +10,7 @@ mod checked;
 mod fault;
 mod laws;
 mod property;
+mod versions;
 
 pub use catalog::{Bundle, Catalog, Channel, Deprecation, Entry, Manifests, Package};
 pub use checked::CheckedCatalog;
@@ -18,6 +19,7 @@ pub use laws::{
     bundles_are_read, channels_have_chains, entries_are_bundles, packages_have_defaults,
 };
 pub use property::{Property, RawConstraint};
+pub use versions::own_version;
 
 #[cfg(test)]
 mod tests;

@@ -1,20 +1,17 @@
 -- What each form of a requirement asks of an offer.
-use Rattle.std.proofs.Common.{◌≡◌, ◌&&◌, ◌||◌, ℕ, Bool, false, not, List, [], ◌∷◌, map, refl, sym, ap, ◌∙◌}
+use Rattle.std.proofs.Common.{◌≡◌, ◌&&◌, ℕ, Bool, false, not, List, sym, ap, ◌∙◌}
 use Rattle.std.specs.List.{list_all, list_any}
 use Rattle.std.proofs.lemmas.List.Folds.{list_all-map}
 use Rattle.version_ranges.specs.Conditions.{holds_of}
 use Rattle.version_ranges.specs.Terms.{Term}
 use Rattle.olm_base.specs.declared.gvk.Gvk.{Gvk}
+use Rattle.fbc_types.proofs.Nested.{any_of_map}
 use Rattle.op_properties.specs.Offers.{Provided, is_among, is_of}
 use Rattle.op_properties.specs.Passing.{passes, passes_by}
 use Rattle.op_properties.specs.declared.requirement.Requirement.{Requirement}
 use Rattle.op_properties.specs.declared.requirement.Requirement.TheVariants as requirement
 use Rattle.op_properties.specs.declared.requirement.Requirement.TheOpen.{Requirement-F}
 use Rattle.op_properties.specs.declared.requirement.Requirement.TheFolds.{fold-roll-Requirement}
-
-pub any_of_map : {T : Type 0} (test : T → Bool) (items : List T) → list_any (λ passed. passed) (map test items) ≡ list_any test items
-any_of_map test [] = refl
-any_of_map test (item ∷ items) = ap (λ others. test item || others) (any_of_map test items)
 
 pub package_passes : (name : List ℕ) (range : List (List Term)) (p : Provided) → passes (requirement.Package name range) p ≡ (is_of name p.«package» && holds_of range p.version)
 unfolding passes

@@ -1,5 +1,6 @@
 -- What is read of each bundle of a catalog that breaks no rule.
 use Rattle.std.proofs.Common.{◌≡◌, ℕ, true, false, List, [], ◌∷◌, map, get_or, refl, sym, ap, ◌∙◌, subst, Option, Some, None, is_some, IsSome, Result, Ok, Err}
+use Rattle.std.specs.Prelude.{slice_get}
 use Rattle.std.specs.List.{list_any}
 use Rattle.std.specs.Option.{option_and_then, option_map}
 use Rattle.std.specs.Result.{is_ok, result_ok}
@@ -10,7 +11,7 @@ use Rattle.version_ranges.specs.Terms.{Term}
 use Rattle.version_ranges.specs.declared.fault.RangeFault.{RangeFault}
 use Rattle.olm_base.specs.declared.gvk.Gvk.{Gvk}
 use Rattle.fbc_types.specs.Laws.{BundlesAreRead, HasOneVersion}
-use Rattle.fbc_types.specs.Texts.{has_bad_range, is_bad_property}
+use Rattle.fbc_types.specs.Texts.{has_bad_range, is_bad_property, version_in}
 use Rattle.fbc_types.specs.declared.catalog.Bundle.{Bundle}
 use Rattle.fbc_types.specs.declared.property.Property.{Property}
 use Rattle.fbc_types.specs.declared.property.Property.TheVariants as given
@@ -21,8 +22,9 @@ use Rattle.fbc_types.specs.declared.property.RawConstraint.TheFolds.{ind-RawCons
 use Rattle.op_properties.specs.Asked.{each_there, range_of, requirement_of, requirements_in}
 use Rattle.op_properties.specs.Laws.{EachBundleIsRead}
 use Rattle.op_properties.specs.declared.requirement.Requirement.TheVariants as requirement
-use Rattle.op_properties.specs.Offers.{offer_of, only, own_version}
-use Rattle.op_properties.proofs.Written.{bad_package, good_package, good_all, good_any, good_not, writes_package, writes_kind, writes_all, writes_any, writes_not, writes_cel, writes_unknown}
+use Rattle.op_properties.specs.Offers.{offer_of}
+use Rattle.fbc_types.proofs.Nested.{bad_package}
+use Rattle.op_properties.proofs.Written.{good_package, good_all, good_any, good_not, writes_package, writes_kind, writes_all, writes_any, writes_not, writes_cel, writes_unknown}
 
 abbrev IsReadable : RawConstraint → Type 0
 IsReadable constraint = has_bad_range constraint ≡ false → is_some (requirement_of constraint) ≡ true
@@ -103,7 +105,7 @@ properties_readable (p ∷ properties) good =
 
 bundle_offers : (bundle : Bundle) → HasOneVersion bundle → IsSome (offer_of bundle)
 bundle_offers bundle (text, own, good) =
-    some_map _ (own_version bundle) ∙ ap (λ texts. is_some (option_and_then version_of (only texts))) own ∙ good
+    some_map _ (version_in bundle) ∙ ap (λ texts. is_some (option_and_then version_of (slice_get texts 0))) own ∙ good
 
 pub each_bundle : BundlesAreRead → EachBundleIsRead
 each_bundle read catalog valid k d below =

@@ -6,7 +6,7 @@ use Rattle.fbc_types.specs.Rules.{broken}
 use Rattle.olm_base.specs.declared.gvk.Gvk.{Gvk}
 use Rattle.fbc_types.specs.Texts.{has_bad_range, is_bad_property, is_range, versions_for}
 use Rattle.fbc_types.specs.declared.property.RawConstraint.TheVariants as raw
-use Rattle.op_properties.proofs.Written.{bad_all, bad_kind, bad_not, bad_package}
+use Rattle.fbc_types.proofs.Nested.{bad_all, bad_kind, bad_not, bad_package}
 use Rattle.fbc_types.specs.declared.catalog.Catalog.{Catalog}
 use Rattle.fbc_types.specs.declared.property.Property.{Property}
 

@@ -1,9 +1,11 @@
 -- What each form of a constraint writes, and whether it names a bad range.
-use Rattle.std.proofs.Common.{◌≡◌, ℕ, Bool, true, false, not, List, map, refl, sym, ap, ◌∙◌, Option, Some}
+use Rattle.std.proofs.Common.{◌≡◌, ℕ, true, false, List, map, sym, ap, ◌∙◌, Option, Some}
 use Rattle.std.specs.List.{list_any}
 use Rattle.std.specs.Option.{option_map}
 use Rattle.olm_base.specs.declared.gvk.Gvk.{Gvk}
-use Rattle.fbc_types.specs.Texts.{has_bad_range, is_range, names_bad_range}
+use Rattle.fbc_types.specs.Texts.{has_bad_range, is_range}
+use Rattle.fbc_types.proofs.Lists.{true_of_not}
+use Rattle.fbc_types.proofs.Nested.{bad_package, bad_all, bad_any, bad_not}
 use Rattle.fbc_types.specs.declared.property.RawConstraint.{RawConstraint}
 use Rattle.fbc_types.specs.declared.property.RawConstraint.TheVariants as raw
 use Rattle.fbc_types.specs.declared.property.RawConstraint.TheOpen.{RawConstraint-F}
@@ -11,41 +13,6 @@ use Rattle.fbc_types.specs.declared.property.RawConstraint.TheFolds.{fold-roll-R
 use Rattle.op_properties.specs.Asked.{each_there, package_in, requirement_by, requirement_of}
 use Rattle.op_properties.specs.declared.requirement.Requirement.{Requirement}
 use Rattle.op_properties.specs.declared.requirement.Requirement.TheVariants as requirement
-use Rattle.op_properties.proofs.Forms.{any_of_map}
-
-true_of_not : (b : Bool) → not b ≡ false → b ≡ true
-true_of_not true h = refl
-true_of_not false h = absurd (let bad : true ≡ false = h in cc)
-
-pub bad_package : (name range : List ℕ) → has_bad_range (raw.Package name range) ≡ not (is_range range)
-unfolding has_bad_range
-bad_package name range =
-    ap has_bad_range (sym (raw.rolls-Package name range)) ∙ fold-roll-RawConstraint Bool names_bad_range (RawConstraint-F.Package name range)
-
-pub bad_kind : (kind : Gvk) → has_bad_range (raw.Kind kind) ≡ false
-unfolding has_bad_range
-bad_kind kind = ap has_bad_range (sym (raw.rolls-Kind kind)) ∙ fold-roll-RawConstraint Bool names_bad_range (RawConstraint-F.Kind kind)
-
-pub bad_all : (members : List RawConstraint) → has_bad_range (raw.All members) ≡ list_any has_bad_range members
-unfolding has_bad_range
-bad_all members =
-    ap has_bad_range (sym (raw.rolls-All members))
-    ∙ fold-roll-RawConstraint Bool names_bad_range (RawConstraint-F.All members)
-    ∙ any_of_map has_bad_range members
-
-pub bad_any : (members : List RawConstraint) → has_bad_range (raw.Any members) ≡ list_any has_bad_range members
-unfolding has_bad_range
-bad_any members =
-    ap has_bad_range (sym (raw.rolls-Any members))
-    ∙ fold-roll-RawConstraint Bool names_bad_range (RawConstraint-F.Any members)
-    ∙ any_of_map has_bad_range members
-
-pub bad_not : (members : List RawConstraint) → has_bad_range (raw.Not members) ≡ list_any has_bad_range members
-unfolding has_bad_range
-bad_not members =
-    ap has_bad_range (sym (raw.rolls-Not members))
-    ∙ fold-roll-RawConstraint Bool names_bad_range (RawConstraint-F.Not members)
-    ∙ any_of_map has_bad_range members
 
 pub writes_package : (name range : List ℕ) → requirement_of (raw.Package name range) ≡ package_in name range
 unfolding requirement_of

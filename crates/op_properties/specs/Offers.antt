@@ -1,12 +1,11 @@
 -- What a bundle or an installed version provides, and what it is of a bundle.
 use Rattle.std.specs.Prelude.{ℕ, Bool, false, not, ◌&&◌, List, [], ◌∷◌, Option, Some, None}
 use Rattle.std.specs.List.{filter, filter_map, list_any}
-use Rattle.std.specs.Option.{option_and_then, option_map, option_map_or}
+use Rattle.std.specs.Option.{option_map, option_map_or}
 use Rattle.semver.specs.Identifiers.{parts_of}
 use Rattle.semver.specs.Parse.{Parts}
-use Rattle.version_ranges.specs.Words.{version_of}
 use Rattle.olm_base.specs.declared.gvk.Gvk.{Gvk}
-use Rattle.fbc_types.specs.Texts.{same, own_versions}
+use Rattle.fbc_types.specs.Texts.{same, version_in}
 use Rattle.fbc_types.specs.declared.catalog.Bundle.{Bundle}
 use Rattle.fbc_types.specs.declared.property.Property.{Property}
 use Rattle.fbc_types.specs.declared.property.Property.TheVariants as property
@@ -52,19 +51,9 @@ each_once (kind ∷ kinds) = kind ∷ filter (λ other. not (same_kind kind othe
 abbrev pub kinds_of : List Property → List Gvk
 kinds_of properties = each_once (filter_map kind_of properties)
 
--- The item of a list of one.
-abbrev pub only : {T : Type 0} → List T → Option T
-only [] = None
-only (item ∷ []) = Some item
-only (item ∷ other ∷ others) = None
-
--- The version that a bundle gives for its own package, where there is one.
-abbrev pub own_version : Bundle → Option Parts
-own_version bundle = option_and_then version_of (only (own_versions bundle))
-
 -- What a bundle provides. It has its one version in each catalog that breaks no rule.
 abbrev pub offer_of : Bundle → Option Provided
 offer_of bundle =
     option_map
     (λ version. record { «package» = Some bundle.«package»; version = version; kinds = kinds_of bundle.properties })
-    (own_version bundle)
+    (version_in bundle)

@@ -1,13 +1,13 @@
 // What a bundle or an installed version provides.
-ghost use Rattle.std.specs.Prelude.{◌≡◌, ◌∷◌, ◌<◌, [], Some, IfOk, true, length, slice_get};
+ghost use Rattle.std.specs.Prelude.{◌≡◌, ◌<◌, Some, IfOk, true, length, slice_get};
 ghost use Rattle.std.specs.Option.{option_and_then};
 ghost use Rattle.fbc_types.specs.Laws.{HasOneVersion};
-ghost use Rattle.fbc_types.specs.Texts.{is_version, own_versions};
+ghost use Rattle.fbc_types.specs.Texts as texts;
 ghost use Rattle.semver.specs.Identifiers.{parts_of};
 ghost use Rattle.version_ranges.specs.Words as words;
 ghost use Rattle.op_properties.specs.Offers as spec;
 
-use fbc_types::{Bundle, CheckedCatalog, Property, bundles_are_read};
+use fbc_types::{Bundle, CheckedCatalog, Property, bundles_are_read, own_version};
 use olm_base::{Gvk, Many, Memory, Name, Text};
 use semver::{Error, Version};
 use std::alloc::{AllocError, Global};
@@ -22,7 +22,7 @@ pub struct Offer {
 
 #[tactic(auto, unfolding(version_ranges::specs::Words::version_of))]
 fn read_version(alloc: Global, text: &Text) -> Result<Version, Memory>
-    requires { is_version text.now ≡ true }
+    requires { texts.is_version text.now ≡ true }
     ensures { IfOk result (λ version. words.version_of text.now ≡ Some (parts_of version)) }
 {
     match Version::parse(alloc, text.as_str()) {
@@ -36,19 +36,15 @@ fn read_version(alloc: Global, text: &Text) -> Result<Version, Memory>
     }
 }
 
-// The version text that the bundle gives for its own package.
-fn own_version(bundle: &Bundle) -> &Text
+/// The version that the bundle gives for its own package.
+fn read_own_version(alloc: Global, bundle: &Bundle) -> Result<Version, Memory>
     requires { HasOneVersion bundle.now }
-    ensures { own_versions bundle.now ≡ result.now ∷ [] }
+    ensures { IfOk result (λ version. texts.version_in bundle.now ≡ Some (parts_of version)) }
 {
-    'properties: for property in bundle.properties.as_slice() {
-        if let Property::Package { name, version } = property {
-            if *name == bundle.package {
-                return version;
-            }
-        }
+    match own_version(bundle) {
+        Some(text) => read_version(alloc, text),
+        None => unreachable!(),
     }
-    unreachable!()
 }
 
 fn is_among(kind: &Gvk, kinds: &[Gvk]) -> bool
@@ -101,7 +97,7 @@ fn bundle_offer(alloc: Global, bundle: &Bundle) -> Result<Offer, Memory>
 {
     Ok(Offer {
         package: Some(bundle.package.clone()?),
-        version: read_version(alloc, own_version(bundle))?,
+        version: read_own_version(alloc, bundle)?,
         kinds: kinds_of(alloc, bundle.properties.as_slice())?,
     })
 }

@@ -1,14 +1,12 @@
 -- Lists from a place on.
 use Rattle.std.proofs.Common.{◌≡◌, ◌+◌, ◌-◌, ◌<◌, arith, append_assoc, ℕ, suc, Bool, true, List, [], ◌∷◌, ◌++◌, length, get_or, map, take, drop, refl, sym, ap, ◌∙◌, drop-cons, add-one, Some, slice_get}
 use Rattle.std.specs.List.{find, flat_map, range_with_len}
-use Rattle.std.proofs.lemmas.List.{get_or-map, length-map, take_more}
+use Rattle.std.proofs.lemmas.List.{get_or-map, length-map}
 use Rattle.std.proofs.lemmas.Option.{slice_get_read}
+use Rattle.op_properties.proofs.Firsts.{take_one_more}
 
 pub drop_at : {T : Type 0} (xs : List T) (i : ℕ) (x : T) → i < length xs → x ≡ get_or xs i x → drop i xs ≡ x ∷ drop (i + 1) xs
 drop_at xs i x below at = rw add-one (drop-cons xs i x below ∙ ap (λ y. y ∷ drop (suc i) xs) (sym at))
-
-pub take_at : {T : Type 0} (xs : List T) (i : ℕ) (x : T) → i < length xs → x ≡ get_or xs i x → take (i + 1) xs ≡ take i xs ++ x ∷ []
-take_at xs i x below at = take_more xs i x below ∙ ap (λ y. take i xs ++ y ∷ []) (sym at)
 
 pub find_at : {T : Type 0} (test : T → Bool) (xs : List T) (i : ℕ) (x : T) → i < length xs → x ≡ get_or xs i x
     → find test (drop i xs) ≡ find test xs → test x ≡ true → slice_get xs i ≡ find test xs
@@ -28,7 +26,7 @@ module _ {A T : Type 0} (see : A → T) (xs : List A) (i : ℕ) (x : A) (below :
   seen_drop = drop_at (map see xs) i (see x) seen_below seen_at
 
   pub seen_take : take (i + 1) (map see xs) ≡ take i (map see xs) ++ see x ∷ []
-  seen_take = take_at (map see xs) i (see x) seen_below seen_at
+  seen_take = take_one_more (map see xs) i (see x) seen_below seen_at
 
 pub flat_map_seen : {A B C : Type 0} (see : A → B) (f : B → List C) (xs : List A) → flat_map (λ x. f (see x)) xs ≡ flat_map f (map see xs)
 flat_map_seen see f [] = refl

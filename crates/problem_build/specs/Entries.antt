@@ -1,11 +1,11 @@
 -- The entries of the visible catalogs: each bundle as often as it stands in a channel.
-use Rattle.std.specs.Prelude.{ℕ, Bool, ◌&&◌, List, [], Option, slice_get}
+use Rattle.std.specs.Prelude.{ℕ, Bool, ◌&&◌, List, [], Option}
 use Rattle.std.specs.Cmp.Lexicographic.{slice_cmp}
 use Rattle.std.specs.List.{filter_map, flat_map, list_any}
 use Rattle.std.specs.Option.{option_and_then, option_map, option_map_or, unwrap_or}
 use Rattle.std.specs.Ordering.{bool_cmp, is_lt, nat_cmp, ordering_then}
 use Rattle.std.specs.declared.cmp.Ordering.{Ordering}
-use Rattle.fbc_types.specs.Texts.{same, own_versions}
+use Rattle.fbc_types.specs.Texts.{same, own_version}
 use Rattle.fbc_types.specs.declared.catalog.Bundle.{Bundle}
 use Rattle.fbc_types.specs.declared.catalog.Catalog.{Catalog}
 use Rattle.fbc_types.specs.declared.catalog.Channel.{Channel}
@@ -50,7 +50,7 @@ entry_of seen channel bundle =
     })
     (offer_of bundle))
     (requirements_of bundle))
-    (slice_get (own_versions bundle) 0)
+    (own_version bundle)
 
 -- The entry of this name in a channel.
 abbrev pub entry_named : Seen → Catalog → Channel → List ℕ → Option Entry

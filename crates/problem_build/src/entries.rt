@@ -1,15 +1,14 @@
 // The entries of the visible catalogs.
 ghost use Rattle.std.specs.Prelude.{◌≡◌, ◌++◌, ◌<◌, length, map, slice_get, IfOk, IfSome, OnOk};
 ghost use Rattle.std.specs.List.{filter_map, flat_map};
-ghost use Rattle.std.specs.Option.{option_and_then, option_copied, option_map, option_to_list};
-ghost use Rattle.fbc_types.specs.Texts.{own_versions, versions_for};
+ghost use Rattle.std.specs.Option.{option_and_then, option_map};
 ghost use Rattle.upgrade_graph.specs.Order.{bundle_named};
 ghost use Rattle.problem_build.specs.Entries as spec;
 ghost use Rattle.problem_build.specs.Shown.{shown_entry};
 
 use crate::channels::channels_in_order;
 use cluster_objects::Seen;
-use fbc_types::{Bundle, Channel, CheckedCatalog, Property};
+use fbc_types::{Bundle, Channel, CheckedCatalog, own_version};
 use olm_base::{Many, Memory, Name, Text};
 use op_properties::{Offer, Requirement, offer_of, requirements};
 use std::alloc::Global;
@@ -27,33 +26,6 @@ pub(crate) struct Listed {
     pub version: Text,
     pub requirements: Many<Requirement>,
     pub offer: Offer,
-}
-
-/// The version that a property gives for this package.
-fn version_for<'a>(owner: &Name, property: &'a Property) -> Option<&'a Text>
-    ensures { option_to_list (option_copied result) ≡ versions_for owner.now property.now }
-{
-    match property {
-        Property::Package { name, version } => { if name == owner { Some(version) } else { None } }
-        Property::Kind(_) => None,
-        Property::NeedKind(_) => None,
-        Property::NeedPackage { .. } => None,
-        Property::Constraint(_) => None,
-        Property::Manifest { .. } => None,
-        Property::Other { .. } => None,
-    }
-}
-
-/// The first version that a bundle gives for its package.
-fn own_version(bundle: &Bundle) -> Option<&Text>
-    ensures { option_copied result ≡ slice_get (own_versions bundle.now) 0 }
-{
-    for property in bundle.properties.as_slice() {
-        if let Some(version) = version_for(&bundle.package, property) {
-            return Some(version);
-        }
-    }
-    None
 }
 
 /// The place of the first bundle of this package and name.

@@ -7,12 +7,12 @@ use Rattle.std.specs.Prelude.{slice_get}
 use Rattle.version_ranges.specs.Words.{version_of}
 use Rattle.fbc_types.specs.Laws.{BundlesAreRead, EntriesAreBundles, HasOneVersion, IsBundleOf}
 use Rattle.fbc_types.specs.Rules.{broken, is_bundle_of}
-use Rattle.fbc_types.specs.Texts.{is_range, same}
+use Rattle.fbc_types.specs.Texts.{is_range, same, version_in}
 use Rattle.fbc_types.specs.Channels.{has_name_twice}
 use Rattle.fbc_types.specs.declared.catalog.Catalog.{Catalog}
 use Rattle.fbc_types.specs.declared.catalog.Channel.{Channel}
 use Rattle.fbc_types.specs.declared.catalog.Bundle.{Bundle}
-use Rattle.upgrade_graph.specs.Order.{channel_named, version_in, version_named}
+use Rattle.upgrade_graph.specs.Order.{channel_named, version_named}
 use Rattle.upgrade_graph.specs.Ranks.{HasVersions}
 
 module _ {T : Type 0} (test : T → Bool) where

@@ -10,26 +10,24 @@ use Rattle.std.proofs.lemmas.List.Sorted.{All-permutation, length_permutation}
 use Rattle.fbc_types.specs.Channels.{chain, chain_from, entry_named, has_name, has_name_twice, heads, replaced_by, replaces}
 use Rattle.fbc_types.specs.Laws.{ChannelsHaveChains, EntriesAreBundles}
 use Rattle.fbc_types.specs.Texts.{same}
+use Rattle.fbc_types.proofs.Lists.{false_of_or}
 use Rattle.fbc_types.specs.declared.catalog.Bundle.{Bundle}
 use Rattle.fbc_types.specs.declared.catalog.Channel.{Channel}
 use Rattle.fbc_types.specs.declared.catalog.Entry.{Entry}
 use Rattle.upgrade_graph.specs.Laws.{IsForward, ReplacingComesFirst}
 use Rattle.upgrade_graph.specs.Order.{in_order, is_before, main_chain, off_chain}
 use Rattle.upgrade_graph.specs.Sorting.{sorted}
-use Rattle.upgrade_graph.proofs.Once.{main_chain_is, none_at, or_false, same_turned, split_permutes}
+use Rattle.upgrade_graph.proofs.Once.{main_chain_is, none_at, same_turned, split_permutes}
 use Rattle.upgrade_graph.proofs.Ordered.{main_chain_all}
-use Rattle.upgrade_graph.proofs.Sorts.{sorted_permutes}
-
-clash : {A : Type 0} (b : Bool) → b ≡ true → b ≡ false → A
-clash b h k = absurd (let bad : true ≡ false = sym h ∙ k in cc)
+use Rattle.upgrade_graph.proofs.Sorts.{sorted_permutes, true_not_false}
 
 -- no name stands at two places
 apart : (xs : List Entry) (i j : ℕ) (d : Entry) → has_name_twice xs ≡ false → i < j → j < length xs → same (get_or xs i d).name (get_or xs j d).name ≡ false
 apart [] i j d once before inside = absurd (omega (arith, inside))
 apart (x ∷ xs) i zero d once before inside = absurd (omega (arith, before))
 apart (x ∷ xs) zero (suc j) d once before inside =
-    none_at (λ other. same x.name other.name) xs j d (or_false _ _ once).0 (omega (arith, inside))
-apart (x ∷ xs) (suc i) (suc j) d once before inside = apart xs i j d (or_false _ _ once).1 (omega (arith, before)) (omega (arith, inside))
+    none_at (λ other. same x.name other.name) xs j d (false_of_or _ _ once).0 (omega (arith, inside))
+apart (x ∷ xs) (suc i) (suc j) d once before inside = apart xs i j d (false_of_or _ _ once).1 (omega (arith, before)) (omega (arith, inside))
 
 -- what follows an entry of a chain: nothing, or the next one, or the steps have ended
 Follows : List Entry → List Entry → ℕ → ℕ → Entry → Type 0
@@ -97,7 +95,7 @@ module _ (entries : List Entry) where
   before_or xs i j d once inside inside' alike (inl before) = before
   before_or xs i j d once inside inside' alike (inr after) =
       let off = apart xs j (i + 1) d once (omega (arith, after)) inside in
-      clash _ alike (same_turned (get_or xs (i + 1) d).name (get_or xs j d).name ∙ off)
+      true_not_false _ alike (same_turned (get_or xs (i + 1) d).name (get_or xs j d).name ∙ off)
 
   forward : (xs : List Entry) (i j : ℕ) (d : Entry) → has_name_twice xs ≡ false → length xs ≤ length entries → i < length xs → j < length xs → All (Contains entries) xs
       → replaced_by entries (get_or xs i d) ≡ entry_named entries (get_or xs j d).name → Follows entries xs (suc (length entries)) i d → i < j
@@ -138,7 +136,7 @@ on_chain front others k d all inside h (inr above) =
     let long = length-append front others in
     let off = all (k - length front) d (omega (arith, inside, long, above)) in
     let same_entry = get_or-append_right front others (length front) k d refl above in
-    clash _ h (ap (λ (e : Entry). has_name e.name front) same_entry ∙ off)
+    true_not_false _ h (ap (λ (e : Entry). has_name e.name front) same_entry ∙ off)
 
 forward_in : (entries front others : List Entry) (head : Entry) (i j : ℕ) (d : Entry) → front ≡ chain entries head → has_name_twice front ≡ false → length front ≤ length entries
     → All (Contains entries) front → All (λ entry. has_name entry.name front ≡ false) others → i < length (front ++ others) → j < length (front ++ others)

@@ -10,10 +10,10 @@ use Rattle.std.specs.Ordering.{nat_cmp}
 use Rattle.std.proofs.lemmas.List.{take_more}
 use Rattle.std.proofs.lemmas.List.Folds.{find-append, list_any_more}
 use Rattle.fbc_types.specs.Channels.{entry_named, replaced_by}
-use Rattle.fbc_types.specs.Texts.{same}
+use Rattle.fbc_types.specs.Texts.{same, version_in}
 use Rattle.fbc_types.specs.declared.catalog.Bundle.{Bundle}
 use Rattle.fbc_types.specs.declared.catalog.Entry.{Entry}
-use Rattle.upgrade_graph.specs.Order.{bundle_named, version_in, version_named}
+use Rattle.upgrade_graph.specs.Order.{bundle_named, version_named}
 use Rattle.upgrade_graph.specs.Tables.{is_in, under}
 
 ties_same : (a b : List ℕ) → is_at (slice_cmp nat_cmp a) b ≡ same a b

@@ -1,13 +1,13 @@
 mod Lists
 mod Chains
 mod Keyed
-mod Sorts
+pub mod Sorts
 mod Ranked
 mod Checked
 mod Ordered
 mod Nearer
 pub mod Placing
-mod Once
+pub mod Once
 mod Positions
 mod Following
 mod Example

@@ -9,6 +9,7 @@ use Rattle.std.proofs.lemmas.List.Sorted.{IsPermutation-append_right, IsPermutat
 use Rattle.fbc_types.specs.Channels.{chain, chain_from, has_name, has_name_twice, heads, is_head, replaced_by}
 use Rattle.fbc_types.specs.Laws.{ChannelsHaveChains, EntriesAreBundles}
 use Rattle.fbc_types.specs.Texts.{same}
+use Rattle.fbc_types.proofs.Lists.{false_of_or}
 use Rattle.fbc_types.specs.declared.catalog.Bundle.{Bundle}
 use Rattle.fbc_types.specs.declared.catalog.Channel.{Channel}
 use Rattle.fbc_types.specs.declared.catalog.Entry.{Entry}
@@ -21,21 +22,17 @@ use Rattle.upgrade_graph.proofs.Sorts.{sorted_permutes}
 pub same_turned : (a b : List ℕ) → same a b ≡ same b a
 same_turned a b = nat_list_eq_equiv.symm a b
 
-pub or_false : (a b : Bool) → (a || b) ≡ false → (a ≡ false) × (b ≡ false)
-or_false false b h = (refl, h)
-or_false true b h = absurd (let bad : true ≡ false = h in cc)
-
 -- what `list_any` denies of a list it denies of each item
 pub none_at : {T : Type 0} (test : T → Bool) (xs : List T) (k : ℕ) (d : T) → list_any test xs ≡ false → k < length xs → test (get_or xs k d) ≡ false
 none_at test [] k d h below = absurd (omega (arith, below))
-none_at test (x ∷ xs) zero d h below = (or_false (test x) (list_any test xs) h).0
-none_at test (x ∷ xs) (suc k) d h below = none_at test xs k d (or_false (test x) (list_any test xs) h).1 (omega (arith, below))
+none_at test (x ∷ xs) zero d h below = (false_of_or (test x) (list_any test xs) h).0
+none_at test (x ∷ xs) (suc k) d h below = none_at test xs k d (false_of_or (test x) (list_any test xs) h).1 (omega (arith, below))
 
 -- entries of a list without a name twice
 filter_none : (test keep : Entry → Bool) (xs : List Entry) → list_any test xs ≡ false → list_any test (filter keep xs) ≡ false
 filter_none test keep [] h = h
 filter_none test keep (x ∷ xs) h =
-    let parts = or_false (test x) (list_any test xs) h in
+    let parts = false_of_or (test x) (list_any test xs) h in
     let rest = filter_none test keep xs parts.1 in
     let go : (b : Bool) → list_any test (if b then x ∷ filter keep xs else filter keep xs) ≡ false =
     λ b. elim b as (λ b. list_any test (if b then x ∷ filter keep xs else filter keep xs) ≡ false) [ true ↦ rw (parts.0) rest | false ↦ rest ] in
@@ -44,7 +41,7 @@ filter_none test keep (x ∷ xs) h =
 filter_once : (keep : Entry → Bool) (xs : List Entry) → has_name_twice xs ≡ false → has_name_twice (filter keep xs) ≡ false
 filter_once keep [] h = h
 filter_once keep (x ∷ xs) h =
-    let parts = or_false (list_any (λ other. same x.name other.name) xs) (has_name_twice xs) h in
+    let parts = false_of_or (list_any (λ other. same x.name other.name) xs) (has_name_twice xs) h in
     let rest = filter_once keep xs parts.1 in
     let none = filter_none (λ other. same x.name other.name) keep xs parts.0 in
     let go : (b : Bool) → has_name_twice (if b then x ∷ filter keep xs else filter keep xs) ≡ false =
@@ -57,21 +54,21 @@ is_apart x entry = not (same x.name entry.name)
 none_removed : (x : Entry) (xs : List Entry) → list_any (λ other. same x.name other.name) xs ≡ false → filter (is_apart x) xs ≡ xs
 none_removed x [] h = refl
 none_removed x (y ∷ ys) h =
-    let parts = or_false (same x.name y.name) (list_any (λ other. same x.name other.name) ys) h in
+    let parts = false_of_or (same x.name y.name) (list_any (λ other. same x.name other.name) ys) h in
     rw (parts.0) (ap (λ more. y ∷ more) (none_removed x ys parts.1))
 
 -- an item of such a list can be taken to the front
 taken_out : (x : Entry) (xs : List Entry) (k : ℕ) → has_name_twice xs ≡ false → k < length xs → get_or xs k x ≡ x → IsPermutation xs (x ∷ filter (is_apart x) xs)
 taken_out x [] k once below at = absurd (omega (arith, below))
 taken_out x (y ∷ ys) zero once below at =
-    let parts = or_false (list_any (λ other. same y.name other.name) ys) (has_name_twice ys) once in
+    let parts = false_of_or (list_any (λ other. same y.name other.name) ys) (has_name_twice ys) once in
     let none : list_any (λ other. same x.name other.name) ys ≡ false = subst (λ (e : Entry). list_any (λ other. same e.name other.name) ys ≡ false) at parts.0 in
     let itself : same x.name y.name ≡ true = subst (λ (e : Entry). same x.name e.name ≡ true) (sym at) (nat_list_eq_equiv.refl x.name) in
     let left : filter (is_apart x) (y ∷ ys) ≡ ys = rw itself (none_removed x ys none) in
     let whole : y ∷ ys ≡ x ∷ filter (is_apart x) (y ∷ ys) = ap (λ (e : Entry). e ∷ ys) at ∙ ap (λ rest. x ∷ rest) (sym left) in
     subst (IsPermutation (y ∷ ys)) whole (IsPermutation-refl (y ∷ ys))
 taken_out x (y ∷ ys) (suc k) once below at =
-    let parts = or_false (list_any (λ other. same y.name other.name) ys) (has_name_twice ys) once in
+    let parts = false_of_or (list_any (λ other. same y.name other.name) ys) (has_name_twice ys) once in
     let other : same y.name x.name ≡ false = subst (λ (e : Entry). same y.name e.name ≡ false) at (none_at (λ other. same y.name other.name) ys k x parts.0 (omega (arith, below))) in
     let apart : same x.name y.name ≡ false = same_turned x.name y.name ∙ other in
     let rest = taken_out x ys k parts.1 (omega (arith, below)) at in
@@ -128,7 +125,7 @@ drawn : (pool xs : List Entry) → has_name_twice pool ≡ false → has_name_tw
     → IsPermutation pool (xs ++ filter (λ entry. not (has_name entry.name xs)) pool)
 drawn pool [] once apart all = subst (IsPermutation pool) (sym (all_kept pool)) (IsPermutation-refl pool)
 drawn pool (x ∷ xs) once apart all =
-    let parts = or_false (list_any (λ other. same x.name other.name) xs) (has_name_twice xs) apart in
+    let parts = false_of_or (list_any (λ other. same x.name other.name) xs) (has_name_twice xs) apart in
     let rest = drawn pool xs once parts.1 all.1 in
     let free : has_name x.name xs ≡ false = turned_any x xs ∙ parts.0 in
     let found = kept_place (λ entry. not (has_name entry.name xs)) x pool all.0.0 (ap not free) all.0.1 all.0.2 in

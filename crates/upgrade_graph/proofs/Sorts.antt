@@ -8,7 +8,7 @@ use Rattle.std.proofs.lemmas.List.Elements.{recursion_from_All, All-from_get_or}
 use Rattle.std.proofs.lemmas.List.Sorted.{sorted_far, IsPermutation-cons, IsPermutation-middle, IsPermutation-refl, IsPermutation-trans}
 use Rattle.upgrade_graph.specs.Sorting.{put_in, sorted}
 
-true_not_false : {A : Type 0} (b : Bool) → b ≡ true → b ≡ false → A
+pub true_not_false : {A : Type 0} (b : Bool) → b ≡ true → b ≡ false → A
 true_not_false b h k = absurd (let bad : true ≡ false = sym h ∙ k in cc)
 
 false_of : (b : Bool) → (b ≡ true → false ≡ true) → b ≡ false

@@ -1,5 +1,5 @@
 -- The order of a channel's entries: the chain from its head, and then the others, the highest version first.
-use Rattle.std.specs.Prelude.{ℕ, ◌&&◌, Bool, not, List, [], ◌++◌, map, filter, Option, slice_get}
+use Rattle.std.specs.Prelude.{ℕ, ◌&&◌, Bool, not, List, [], ◌++◌, map, filter, Option}
 use Rattle.std.specs.Cmp.Lexicographic.{slice_cmp}
 use Rattle.std.specs.List.{find}
 use Rattle.std.specs.Option.{option_and_then, option_map, option_map_or, unwrap_or}
@@ -7,8 +7,7 @@ use Rattle.std.specs.Ordering.{is_lt, nat_cmp, ordering_then}
 use Rattle.std.specs.declared.cmp.Ordering.{Ordering}
 use Rattle.semver.specs.Parse.{Parts}
 use Rattle.version_ranges.specs.Versions.{precedence, release}
-use Rattle.version_ranges.specs.Words.{version_of}
-use Rattle.fbc_types.specs.Texts.{same, own_versions}
+use Rattle.fbc_types.specs.Texts.{same, version_in}
 use Rattle.fbc_types.specs.Channels.{is_head, chain, has_name}
 use Rattle.fbc_types.specs.Rules.{is_bundle_of, is_channel_of}
 use Rattle.fbc_types.specs.declared.catalog.Catalog.{Catalog}
@@ -24,10 +23,6 @@ channel_named channels owner name = find (λ channel. is_channel_of owner channe
 -- The bundle of this package and name. By the rules there is one at most.
 abbrev pub bundle_named : List Bundle → List ℕ → List ℕ → Option Bundle
 bundle_named bundles owner name = find (λ bundle. is_bundle_of owner bundle && same bundle.name name) bundles
-
--- The version that a bundle gives for its package. By the rules it gives one.
-abbrev pub version_in : Bundle → Option Parts
-version_in bundle = option_and_then version_of (slice_get (own_versions bundle) 0)
 
 -- The version of the bundle of this package and name. By the rules each entry has one.
 unfoldable pub version_named : List Bundle → List ℕ → List ℕ → Option Parts

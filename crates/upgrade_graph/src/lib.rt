@@ -24,7 +24,6 @@ pub use laws::{
 };
 pub use placed::{ChannelOrder, entries_in_order};
 pub use tables::bundles_by_name;
-pub use versions::own_version;
 
 #[cfg(test)]
 mod tests;

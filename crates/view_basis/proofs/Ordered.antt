@@ -2,12 +2,11 @@
 use Rattle.std.proofs.Common.{◌≡◌, Bool, true, false, cond, List, [], ◌∷◌, Option, Some, None, map, refl}
 use Rattle.std.specs.Cmp.{IsTotalOrder}
 use Rattle.std.specs.List.{AllByRecursion, cons_option, filter_map}
-use Rattle.std.specs.List.Sorted.{IsPermutation, IsStrictlySortedBy}
+use Rattle.std.specs.List.Sorted.{IsStrictlySortedBy}
 use Rattle.std.specs.Map.{keys_of}
 use Rattle.std.specs.Ordering.{is_lt, ordering_reverse}
 use Rattle.std.specs.declared.cmp.Ordering.{Ordering}
 use Rattle.std.specs.declared.cmp.Ordering.TheVariants.{Equal, Less, Greater}
-use Rattle.std.proofs.lemmas.List.Sorted.{IsPermutation-cons, IsPermutation-middle, IsPermutation-refl, IsPermutation-trans}
 use Rattle.upgrade_graph.specs.Sorting.{put_in, sorted}
 
 pub AllPairsAre : {X : Type 0} → (X → X → Type 0) → List X → Type 0
@@ -102,18 +101,3 @@ module _ {X : Type 0} (cmp : X → X → Ordering) (o : IsTotalOrder cmp) where
   sorted_in_order [] apart = tt
   sorted_in_order (x ∷ xs) apart =
       put_in_order x (sorted lt xs) (sorted_all (λ y. cmp x y ≡ Equal → ⊥) xs apart.0) (sorted_in_order xs apart.1)
-
--- A sorted list has the same items.
-put_permutes : {X : Type 0} (lt : X → X → Bool) (x : X) (xs : List X) → IsPermutation (x ∷ xs) (put_in lt x xs)
-put_permutes lt x [] = IsPermutation-refl (x ∷ [])
-put_permutes lt x (y ∷ ys) =
-    let go : (b : Bool) → IsPermutation (x ∷ y ∷ ys) (cond b (y ∷ put_in lt x ys) (x ∷ y ∷ ys)) =
-    λ b. elim b as (λ b. IsPermutation (x ∷ y ∷ ys) (cond b (y ∷ put_in lt x ys) (x ∷ y ∷ ys))) [
-      | true ↦ IsPermutation-trans _ _ _ (IsPermutation-middle (x ∷ []) y ys) (IsPermutation-cons y (x ∷ ys) (put_in lt x ys) (put_permutes lt x ys))
-      | false ↦ IsPermutation-refl (x ∷ y ∷ ys)
-    ] in
-    go (lt y x)
-
-pub sorted_permutes : {X : Type 0} (lt : X → X → Bool) (xs : List X) → IsPermutation xs (sorted lt xs)
-sorted_permutes lt [] = IsPermutation-refl []
-sorted_permutes lt (x ∷ xs) = IsPermutation-trans _ _ _ (IsPermutation-cons x xs (sorted lt xs) (sorted_permutes lt xs)) (put_permutes lt x (sorted lt xs))

@@ -25,7 +25,8 @@ use Rattle.view_basis.specs.Laws.{CatalogsAreInOrder, CatalogsAreOfSlots, Subscr
 use Rattle.view_basis.specs.Tips.{csv_in, is_replaced, tip_in, tip_of}
 use Rattle.view_basis.specs.Visible.{Source, is_before, is_seen_from, seen_cmp, source_at, source_in, source_of, sources}
 use Rattle.op_properties.proofs.Singles.{same_is}
-use Rattle.view_basis.proofs.Ordered.{picked, shown_in_order, sorted_in_order, sorted_permutes}
+use Rattle.upgrade_graph.proofs.Sorts.{sorted_permutes}
+use Rattle.view_basis.proofs.Ordered.{picked, shown_in_order, sorted_in_order}
 
 -- keys that differ in their names alone are in the order of these
 by_names : (a b : Key) → a.group ≡ b.group → a.kind ≡ b.kind → a.namespace ≡ b.namespace → key_cmp a b ≡ text_cmp a.name b.name

@@ -1,7 +1,7 @@
 use Rattle.std.proofs.Common.{◌≡◌, drop}
 use Rattle.std.specs.List.{flat_map}
 use Rattle.fbc_types.specs.Texts.{own_versions, versions_for}
-use Rattle.problem_build.proofs.entries.own_version.Given as goal
+use Rattle.fbc_types.proofs.versions.own_version.Given as goal
 
 abbrev pub invariant-loop-property : goal.invariant-loop-property
 invariant-loop-property l =

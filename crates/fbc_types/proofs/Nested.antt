@@ -8,7 +8,7 @@ use Rattle.fbc_types.specs.declared.property.RawConstraint.TheVariants as raw
 use Rattle.fbc_types.specs.declared.property.RawConstraint.TheOpen.{RawConstraint-F}
 use Rattle.fbc_types.specs.declared.property.RawConstraint.TheFolds.{fold-roll-RawConstraint}
 
-any_of_map : {T : Type 0} (test : T → Bool) (items : List T) → list_any (λ found. found) (map test items) ≡ list_any test items
+pub any_of_map : {T : Type 0} (test : T → Bool) (items : List T) → list_any (λ found. found) (map test items) ≡ list_any test items
 any_of_map test [] = refl
 any_of_map test (item ∷ items) = ap (λ others. test item || others) (any_of_map test items)
 

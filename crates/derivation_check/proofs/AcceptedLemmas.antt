@@ -14,23 +14,16 @@ use Rattle.derivations.specs.declared.Certificate.{Certificate}
 use Rattle.derivations.specs.declared.Finding.{Finding}
 use Rattle.derivations.specs.declared.Finding.TheVariants.{Chosen as ChosenFinding, Refused as RefusedFinding, Undecided as UndecidedFinding}
 use Rattle.derivations.specs.declared.LogCause.{LogCause}
+use Rattle.derivations.proofs.Sound.{or_none, map_none}
 use Rattle.derivations.specs.Follows.{clauses, fault_of, log_fault}
 use Rattle.derivations.specs.Accepted.{denies, Refutes, pairs_from, IsStep, IsShownBest, IsShown, IsAccepted}
 use Rattle.derivation_check.specs.declared.CertFault.{CertFault}
 use Rattle.derivation_check.specs.declared.CertFault.TheVariants.{WrongSize, Lemma, Walk, NotMet, Missing, Extra, Denies, Step, WholeDenies, WholeStep}
 use Rattle.derivation_check.specs.Faults.{size_fault, is_ended, after_member, walk_fault, broken_of, met_fault, is_pair, pairs_fault, pair_of, deniable, all_deny, denies_fault, steps_fault, set_of, chosen_fault, refused_fault, finding_fault, first_fault}
 
-or_none : {A : Type 0} (o p : Option A) → option_or o p ≡ None → (o ≡ None) × (p ≡ None)
-or_none None p e = (refl, e)
-or_none (Some x) p e = absurd (let bad : Some x ≡ None = e in cc)
-
 both_none : {A : Type 0} (o p : Option A) → o ≡ None → p ≡ None → option_or o p ≡ None
 both_none None p e f = f
 both_none (Some x) p e f = absurd (let bad : Some x ≡ None = e in cc)
-
-map_none : {A B : Type 0} (f : A → B) (o : Option A) → option_map f o ≡ None → o ≡ None
-map_none f None e = refl
-map_none f (Some x) e = absurd (let bad : Some (f x) ≡ None = e in cc)
 
 none_map : {A B : Type 0} (f : A → B) (o : Option A) → o ≡ None → option_map f o ≡ None
 none_map f None e = refl

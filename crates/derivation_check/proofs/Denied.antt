@@ -1,9 +1,11 @@
 -- What is marked when a clause is denied, and that each clause that a hint names is of marked variables.
-use Rattle.std.proofs.Common.{◌≡◌, ℕ, zero, suc, ◌+◌, ◌<◌, ◌==◌, Bool, true, false, not, cond, ◌&&◌, ◌||◌, List, [], ◌∷◌, length, map, take, refl, sym, ap, ◌∙◌, subst, arith, inl, inr, Option, Some, None, Ok, Err, IsTrue, set, get_or, get_or-set_other, get_or-set_same, length-set, nat_lt, eq-eqb, ne_eqb, is_none, replicate, slice_get}
-use Rattle.std.specs.Option.{option_and_then, ok_or}
+use Rattle.std.proofs.Common.{◌≡◌, ℕ, zero, suc, ◌+◌, ◌<◌, ◌==◌, Bool, true, false, not, cond, ◌&&◌, ◌||◌, List, [], ◌∷◌, length, map, take, refl, sym, ap, ◌∙◌, subst, arith, inl, inr, Option, Some, None, Ok, IsTrue, set, get_or, get_or-set_other, get_or-set_same, length-set, nat_lt, eq-eqb, ne_eqb, is_none, replicate, slice_get}
+use Rattle.std.proofs.Math.Bool.{and-false, or-false}
+use Rattle.std.specs.Option.{option_and_then}
 use Rattle.std.specs.List.{list_all, AllByRecursion}
 use Rattle.std.proofs.lemmas.Bool.{cases_Bool, cases_eq, and_parts, ltb-true, eqb-true, or_cases, cond-true, cond-false}
 use Rattle.std.proofs.lemmas.List.{length-replicate}
+use Rattle.op_constraints.proofs.Taking.{within-place}
 use Rattle.op_constraints.proofs.WalkLaws.{under}
 use Rattle.op_constraints.specs.declared.Lit.{Lit}
 use Rattle.op_constraints.specs.declared.Constraint.{Constraint}
@@ -13,11 +15,11 @@ use Rattle.op_constraints.specs.Walks.{is_among}
 use Rattle.derivations.specs.declared.Hint.{Hint}
 use Rattle.derivations.specs.declared.Lemma.{Lemma}
 use Rattle.derivations.specs.declared.Hint.TheVariants.{Lemma as LemmaHint, Given}
-use Rattle.derivations.specs.declared.LogCause.{LogCause}
 use Rattle.derivations.specs.declared.LogCause.TheVariants.{NoSuchHint, BadGiven, BadClause}
 use Rattle.derivations.specs.Clauses.{positive, negative, denial, is_same, is_in, is_too_many, given_clause}
 use Rattle.op_constraints.specs.Kept.{is_distinct}
 use Rattle.derivations.specs.Follows.{clause_of, is_clause, all_hints_fault, fault_of, clauses}
+use Rattle.derivations.proofs.Grows.{ok_some}
 use Rattle.derivation_check.specs.Scan.{says, is_said, denied_in, are_new, answer}
 use Rattle.derivation_check.proofs.ScanLemmas.{Agrees, Agrees-set, IsBelow, answer_same}
 
@@ -54,12 +56,8 @@ denied_says known trail (l ∷ ls) a e m =
     regroup (is_same (denial l) m) (is_in (map denial ls) m) (is_in trail m)
     ∙ denied_says (set known l.var (Some (not l.positive))) (denial l ∷ trail) ls (Agrees-set known trail (denial l) a (ltb-true l.var (length known) here.0) (none_is (get_or known l.var None) here.1)) parts.1 m
 
-or_nothing : (b : Bool) → (b || false) ≡ b
-or_nothing true = refl
-or_nothing false = refl
-
 pub Agrees-denied : (n : ℕ) (lits : List Lit) → are_new (replicate n None) lits ≡ true → Agrees (denied_in (replicate n None) lits) (map denial lits)
-Agrees-denied n lits e m = sym (or_nothing (is_in (map denial lits) m)) ∙ denied_says (replicate n None) [] lits (Agrees-fresh n) e m
+Agrees-denied n lits e m = sym (or-false (is_in (map denial lits) m)) ∙ denied_says (replicate n None) [] lits (Agrees-fresh n) e m
 
 pub length-denied_in : (known : List (Option Bool)) (lits : List Lit) → length (denied_in known lits) ≡ length known
 length-denied_in known [] = refl
@@ -77,14 +75,14 @@ unknown_set known v b w h =
       | inr other ↦ rw (ne_eqb v w other) (ap is_none (get_or-set_other known v w (Some b) None (λ s. other (sym s))))
     ]
 
-swap_tests : (e u m a : Bool) → ((not e && u) && (not m && a)) ≡ (not (e || m) && (u && a))
+pub swap_tests : (e u m a : Bool) → ((not e && u) && (not m && a)) ≡ (not (e || m) && (u && a))
 swap_tests true u m a = refl
 swap_tests false true true a = refl
 swap_tests false true false a = refl
 swap_tests false false true a = refl
 swap_tests false false false a = refl
 
-eqb_sym : (v w : ℕ) → (v == w) ≡ (w == v)
+pub eqb_sym : (v w : ℕ) → (v == w) ≡ (w == v)
 eqb_sym v w =
     elim (cases_eq v w) [
       | inl same ↦ rw (eq-eqb v w same) (sym (eq-eqb w v (sym same)))
@@ -99,13 +97,9 @@ unknown_all known v b (w ∷ ws) h =
     ∙ (swap_tests (v == w) (unknown known w) (is_among ws v) (list_all (unknown known) ws)
     ∙ ap (λ x. not (x || is_among ws v) && (unknown known w && list_all (unknown known) ws)) (eqb_sym v w)))
 
-and_false : (u : Bool) → (u && false) ≡ false
-and_false true = refl
-and_false false = refl
-
 sort_tests : (a u A m U d : Bool) → ((a && u) && (A && ((m && U) && d))) ≡ ((a && A) && ((u && U) && (m && d)))
 sort_tests false u A m U d = refl
-sort_tests true u false m U d = and_false u
+sort_tests true u false m U d = and-false u
 sort_tests true false true m U d = refl
 sort_tests true true true true U d = refl
 sort_tests true true true false true d = refl
@@ -180,19 +174,10 @@ given_below n v Prohibited (x ∷ xs) clause h w e = absurd (let bad : None ≡ 
 given_below n v (Dependency members) (x ∷ xs) clause h w e = absurd (let bad : None ≡ Some clause = e in cc)
 given_below n v (Conflict other) (x ∷ xs) clause h w e = absurd (let bad : None ≡ Some clause = e in cc)
 
-at_place : (n : ℕ) (cs : List Constraint) (k : ℕ) (c : Constraint) → AllByRecursion (λ c. IsWithin n c) cs → slice_get cs k ≡ Some c → IsWithin n c
-at_place n [] k c a e = absurd (let bad : None ≡ Some c = e in cc)
-at_place n (d ∷ ds) zero c a e = let same : d ≡ c = cc in subst (λ k. IsWithin n k) same a.0
-at_place n (d ∷ ds) (suc k) c a e = at_place n ds k c a.1 e
-
 pub constraint_within : (n : ℕ) (problem : List (List Constraint)) (v place : ℕ) (c : Constraint) → AllByRecursion (λ cs. AllByRecursion (λ c. IsWithin n c) cs) problem → constraint_at problem v place ≡ Some c → (v < length problem) × IsWithin n c
 constraint_within n [] v place c a e = absurd (let bad : None ≡ Some c = e in cc)
-constraint_within n (cs ∷ css) zero place c a e = (omega arith, at_place n cs place c a.0 e)
+constraint_within n (cs ∷ css) zero place c a e = (omega arith, within-place n cs place c a.0 e)
 constraint_within n (cs ∷ css) (suc v) place c a e = let r = constraint_within n css v place c a.1 e in (omega (arith, r.0), r.1)
-
-ok_some : (o : Option (List Lit)) (cause : LogCause) (clause : List Lit) → ok_or o cause ≡ Ok clause → o ≡ Some clause
-ok_some None cause clause e = absurd (let bad : Err cause ≡ Ok clause = e in cc)
-ok_some (Some x) cause clause e = cc
 
 earlier_below : (n : ℕ) (earlier : List (List Lit)) (k : ℕ) (clause : List Lit) → AllByRecursion (IsBelow n) earlier → slice_get earlier k ≡ Some clause → IsBelow n clause
 earlier_below n [] k clause a e = absurd (let bad : None ≡ Some clause = e in cc)

@@ -10,6 +10,7 @@ use Rattle.derivations.specs.declared.LogCause.TheVariants.{BadClause}
 use Rattle.derivations.specs.declared.LogFault.{LogFault}
 use Rattle.derivations.specs.Clauses.{denial}
 use Rattle.derivations.specs.Follows.{is_clause, all_hints_fault, fault_of, log_fault, clauses}
+use Rattle.derivations.proofs.Sound.{or_none, map_none}
 
 take_clauses : (lemmas : List Lemma) (i : ℕ) (lemma : Lemma) → i < length lemmas → lemma ≡ get_or lemmas i lemma → take (suc i) (clauses lemmas) ≡ take i (clauses lemmas) ++ lemma.lits ∷ []
 take_clauses [] i lemma h e = absurd (omega arith)
@@ -41,20 +42,12 @@ within_step problem lemmas i lemma h e f a =
     rw (add-one i) (all_take_push (λ (l : Lemma). IsTrue (is_clause problem l.lits)) lemmas i lemma h e a
     (good_clause (is_clause problem lemma.lits) (all_hints_fault problem (take i (clauses lemmas)) (map denial lemma.lits) lemma.hints) f))
 
-no_fault : {A : Type 0} (o p : Option A) → option_or o p ≡ None → (o ≡ None) × (p ≡ None)
-no_fault None p e = (refl, e)
-no_fault (Some x) p e = absurd (let bad : Some x ≡ None = e in cc)
-
-unnamed : {A B : Type 0} (f : A → B) (o : Option A) → option_map f o ≡ None → o ≡ None
-unnamed f None e = refl
-unnamed f (Some x) e = absurd (let bad : Some (f x) ≡ None = e in cc)
-
 -- each lemma of a log that follows is a clause of the problem's variables
 pub log_within : (problem : List (List Constraint)) (earlier : List (List Lit)) (log : List Lemma) → log_fault problem earlier log ≡ None → AllByRecursion (λ l. IsTrue (is_clause problem l.lits)) log
 log_within problem earlier [] e = tt
 log_within problem earlier (lemma ∷ lemmas) e =
     let name : LogCause → LogFault = λ cause. record { number = length earlier; cause = cause } in
-    let parts = no_fault (option_map name (fault_of problem earlier lemma.lits lemma.hints)) (log_fault problem (earlier ++ lemma.lits ∷ []) lemmas) e in (
-      good_clause (is_clause problem lemma.lits) (all_hints_fault problem earlier (map denial lemma.lits) lemma.hints) (unnamed name (fault_of problem earlier lemma.lits lemma.hints) parts.0),
+    let parts = or_none (option_map name (fault_of problem earlier lemma.lits lemma.hints)) (log_fault problem (earlier ++ lemma.lits ∷ []) lemmas) e in (
+      good_clause (is_clause problem lemma.lits) (all_hints_fault problem earlier (map denial lemma.lits) lemma.hints) (map_none name (fault_of problem earlier lemma.lits lemma.hints) parts.0),
       log_within problem (earlier ++ lemma.lits ∷ []) lemmas parts.1,
     )

@@ -1,5 +1,6 @@
 -- Marks of members say which of them are listed and not yet named.
 use Rattle.std.proofs.Common.{◌≡◌, ℕ, zero, suc, ◌+◌, ◌<◌, ◌==◌, Bool, true, false, not, cond, ◌&&◌, ◌||◌, List, [], ◌∷◌, length, refl, sym, ap, ◌∙◌, subst, arith, inl, inr, Option, Some, None, set, get_or, get_or-set_other, get_or-set_same, length-set, eq-eqb, ne_eqb, replicate}
+use Rattle.std.proofs.Math.Bool.{and-false, or-false}
 use Rattle.std.specs.List.{list_all, AllByRecursion}
 use Rattle.std.proofs.lemmas.Bool.{cases_Bool, cases_eq}
 use Rattle.std.proofs.lemmas.List.{length-replicate}
@@ -8,7 +9,7 @@ use Rattle.derivations.specs.Clauses.{is_too_many}
 use Rattle.op_constraints.specs.Kept.{is_distinct}
 use Rattle.derivation_check.specs.Scan.{says}
 use Rattle.derivation_check.specs.Members.{listed_in, are_struck}
-use Rattle.derivation_check.proofs.Denied.{none_known}
+use Rattle.derivation_check.proofs.Denied.{none_known, swap_tests, eqb_sym}
 
 abbrev nothing : Option Bool
 nothing = None
@@ -16,13 +17,6 @@ nothing = None
 -- the marks are those of a test
 abbrev pub Lists : List (Option Bool) → (ℕ → Bool) → Type 0
 Lists known test = (v : ℕ) → says (get_or known v None) true ≡ test v
-
-eqb_sym : (v w : ℕ) → (v == w) ≡ (w == v)
-eqb_sym v w =
-    elim (cases_eq v w) [
-      | inl same ↦ rw (eq-eqb v w same) (sym (eq-eqb w v (sym same)))
-      | inr other ↦ rw (ne_eqb v w other) (sym (ne_eqb w v (λ s. other (sym s))))
-    ]
 
 -- one mark more, of a variable that has one
 set_lists : (known : List (Option Bool)) (test : ℕ → Bool) (v : ℕ) (b : Bool) → v < length known → Lists known test → (w : ℕ) → says (get_or (set known v (Some b)) w None) true ≡ cond (v == w) (says (Some b) true) (test w)
@@ -49,15 +43,11 @@ listed_lists known test (v ∷ vs) n e a l w =
     listed_lists (set known v (Some true)) (λ u. (v == u) || test u) vs n (length-set known v (Some true) ∙ e) a.1 next w
     ∙ shift_or (v == w) (is_among vs w) (test w)
 
-or_nothing : (b : Bool) → (b || false) ≡ b
-or_nothing true = refl
-or_nothing false = refl
-
 -- fresh marks, with the members marked, list the members
 pub members_listed : (n : ℕ) (members : List ℕ) → AllByRecursion (λ m. m < n) members → Lists (listed_in (replicate n nothing) members) (is_among members)
 members_listed n members a v =
     listed_lists (replicate n nothing) (λ w. false) members n (length-replicate n nothing) a (λ w. ap (λ o. says o true) (none_known n w)) v
-    ∙ or_nothing (is_among members v)
+    ∙ or-false (is_among members v)
 
 -- a variable that has a mark is in range
 said_low : (known : List (Option Bool)) (v : ℕ) → says (get_or known v None) true ≡ true → v < length known
@@ -69,18 +59,11 @@ struck_not : (e t : Bool) → cond e false t ≡ (not e && t)
 struck_not true t = refl
 struck_not false t = refl
 
-split_all : (e t A r : Bool) → ((not e && t) && (not A && r)) ≡ (not (e || A) && (t && r))
-split_all true t A r = refl
-split_all false true true r = refl
-split_all false true false r = refl
-split_all false false true r = refl
-split_all false false false r = refl
-
 all_but : (test : ℕ → Bool) (v : ℕ) (ws : List ℕ) → list_all (λ w. not (v == w) && test w) ws ≡ (not (is_among ws v) && list_all test ws)
 all_but test v [] = refl
 all_but test v (w ∷ ws) =
     ap (λ x. (not (v == w) && test w) && x) (all_but test v ws)
-    ∙ (split_all (v == w) (test w) (is_among ws v) (list_all test ws)
+    ∙ (swap_tests (v == w) (test w) (is_among ws v) (list_all test ws)
     ∙ ap (λ x. not (x || is_among ws v) && (test w && list_all test ws)) (eqb_sym v w))
 
 swap_last : (d A r : Bool) → (d && (A && r)) ≡ ((A && d) && r)
@@ -88,10 +71,6 @@ swap_last true true r = refl
 swap_last true false r = refl
 swap_last false true r = refl
 swap_last false false r = refl
-
-and_false : (u : Bool) → (u && false) ≡ false
-and_false true = refl
-and_false false = refl
 
 -- striking succeeds where each is listed, and each is there once
 pub struck_same : (known : List (Option Bool)) (test : ℕ → Bool) (vs : List ℕ) → Lists known test → are_struck known vs ≡ (is_distinct vs && list_all test vs)
@@ -108,7 +87,7 @@ struck_same known test (v ∷ vs) l =
           ∙ swap_last (is_distinct vs) (not (is_among vs v)) (list_all test vs)))))
       | inr other ↦
           (let out : test v ≡ false = sym (l v) ∙ other in
-          rw other (rw out (sym (and_false (is_distinct (v ∷ vs))))))
+          rw other (rw out (sym (and-false (is_distinct (v ∷ vs))))))
     ]
 
 and_true : (a b : Bool) → a ≡ true → (a && b) ≡ b

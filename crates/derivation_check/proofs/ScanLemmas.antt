@@ -1,5 +1,6 @@
 -- Hints read by marks give the answers of hints read by a trail.
-use Rattle.std.proofs.Common.{◌≡◌, ℕ, suc, ◌+◌, ◌<◌, Bool, true, false, not, cond, ◌||◌, List, [], ◌∷◌, length, drop, refl, sym, ap, ◌∙◌, subst, arith, inl, inr, Option, Some, None, Result, Ok, Err, set, get_or, get_or-set_other, get_or-set_same, length-set, drop-cons, eqb, eq-eqb, ne_eqb}
+use Rattle.std.proofs.Common.{◌≡◌, ℕ, suc, ◌+◌, ◌<◌, Bool, true, false, not, cond, List, [], ◌∷◌, length, drop, refl, sym, ap, ◌∙◌, subst, arith, inl, inr, Option, Some, None, Result, Ok, Err, set, get_or, get_or-set_other, get_or-set_same, length-set, drop-cons, eqb, eq-eqb, ne_eqb}
+use Rattle.std.proofs.Math.Bool.{or-false}
 use Rattle.std.specs.Option.{option_and_then}
 use Rattle.std.specs.List.{list_all}
 use Rattle.std.proofs.lemmas.Bool.{cases_Bool, cases_eq}
@@ -102,10 +103,6 @@ forced_same known trail clause a = ap (forced_by known) (scanned_status known tr
 pub conflict_same : (known : List (Option Bool)) (trail clause : List Lit) → Agrees known trail → is_conflict (scanned known Nothing clause) ≡ is_nothing (left trail clause)
 conflict_same known trail clause a = ap is_conflict (scanned_status known trail clause a) ∙ status_conflict (left trail clause)
 
-or_false : (b : Bool) → (b || false) ≡ b
-or_false true = refl
-or_false false = refl
-
 unsaid : (o : Option Bool) → says o true ≡ false → says o false ≡ false → o ≡ None
 unsaid None t f = refl
 unsaid (Some true) t f = absurd (let bad : true ≡ false = t in cc)
@@ -118,7 +115,7 @@ Agrees-set known trail l a h none m =
           let read : get_or (set known l.var (Some l.positive)) m.var None ≡ Some l.positive = subst (λ k. get_or (set known l.var (Some l.positive)) k None ≡ Some l.positive) same (get_or-set_same known l.var (Some l.positive) None h) in
           let old : is_in trail m ≡ false = a m ∙ ap (λ o. says o m.positive) (subst (λ k. get_or known k None ≡ None) same none) in
           let here : eqb l.var m.var ≡ true = eq-eqb l.var m.var same in
-          rw read (rw here (rw old (or_false (beq l.positive m.positive))))
+          rw read (rw here (rw old (or-false (beq l.positive m.positive))))
       | inr other ↦
           let read : get_or (set known l.var (Some l.positive)) m.var None ≡ get_or known m.var None = get_or-set_other known l.var m.var (Some l.positive) None (λ s. other (sym s)) in
           let there : eqb l.var m.var ≡ false = ne_eqb l.var m.var other in

@@ -4,6 +4,7 @@ use Rattle.std.specs.Option.{option_and_then, option_map}
 use Rattle.std.specs.List.{AllByRecursion, range_with_len}
 use Rattle.std.proofs.lemmas.Bool.{ltb-true, ltb-false, cond-true, cond-false, cases_Bool}
 use Rattle.std.proofs.lemmas.List.{take-append-drop, drop-drop}
+use Rattle.std.proofs.lemmas.Option.{slice_get_past, slice_get_within}
 use Rattle.op_constraints.specs.declared.Lit.{Lit}
 use Rattle.op_constraints.specs.declared.Constraint.{Constraint}
 use Rattle.op_constraints.specs.Walks.{is_among, waiting, member, choice, first_of, walk_from, walk}
@@ -25,21 +26,11 @@ get_some [] i h = absurd (omega arith)
 get_some (x ∷ xs) zero h = refl
 get_some (x ∷ xs) (suc i) h = get_some xs i (omega arith)
 
-get_none : (xs : List ℕ) (i : ℕ) → length xs ≤ i → slice_get xs i ≡ None
-get_none [] i h = refl
-get_none (x ∷ xs) zero h = absurd (omega arith)
-get_none (x ∷ xs) (suc i) h = get_none xs i (omega arith)
-
-got_low : (xs : List ℕ) (i v : ℕ) → slice_get xs i ≡ Some v → i < length xs
-got_low [] i v e = absurd (let bad : None ≡ Some v = e in cc)
-got_low (x ∷ xs) zero v e = omega arith
-got_low (x ∷ xs) (suc i) v e = let h = got_low xs i v e in omega arith
-
-offered : (problem : List (List Constraint)) (chosen : List ℕ) (n : ℕ) → n < length (choice problem chosen) → member (waiting problem chosen) n ≡ Some (slice_index (choice problem chosen) n)
+pub offered : (problem : List (List Constraint)) (chosen : List ℕ) (n : ℕ) → n < length (choice problem chosen) → member (waiting problem chosen) n ≡ Some (slice_index (choice problem chosen) n)
 offered problem chosen n h = member_get (waiting problem chosen) n ∙ get_some (choice problem chosen) n h
 
 not_offered : (problem : List (List Constraint)) (chosen : List ℕ) (n : ℕ) → length (choice problem chosen) ≤ n → member (waiting problem chosen) n ≡ None
-not_offered problem chosen n h = member_get (waiting problem chosen) n ∙ get_none (choice problem chosen) n h
+not_offered problem chosen n h = member_get (waiting problem chosen) n ∙ slice_get_past (choice problem chosen) n h
 
 -- a number out of its list ends the walk
 pub walk_fails : (problem other : List (List Constraint)) (chosen numbers : List ℕ) (i : ℕ) → other ≡ problem → i < length numbers → nat_lt (get_or numbers i 0) (length (choice other chosen)) ≡ false → walk_fault problem chosen i (drop i numbers) ≡ Some (Walk i)
@@ -72,7 +63,7 @@ goes_on problem other chosen numbers i same h (end, e) =
     let n = get_or numbers i 0 in
     let e' : walk_from problem chosen (n ∷ drop (suc i) numbers) ≡ Some end = ap (λ ns. walk_from problem chosen ns) (sym (drop-cons numbers i 0 h)) ∙ e in
     let (v, is, rest) = under (λ v. walk_from problem (chosen ++ v ∷ []) (drop (suc i) numbers)) (member (waiting problem chosen) n) end e' in
-    subst (λ (p : List (List Constraint)). n < length (choice p chosen)) (sym same) (got_low (choice problem chosen) n v (sym (member_get (waiting problem chosen) n) ∙ is))
+    subst (λ (p : List (List Constraint)). n < length (choice p chosen)) (sym same) (slice_get_within (choice problem chosen) n v (sym (member_get (waiting problem chosen) n) ∙ is))
 
 take_more : (xs : List ℕ) (i : ℕ) → i < length xs → take (suc i) xs ≡ take i xs ++ get_or xs i 0 ∷ []
 take_more [] i h = absurd (omega arith)

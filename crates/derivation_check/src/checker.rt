@@ -1,13 +1,11 @@
 // The checker, and the order in which it looks for faults.
-ghost use Rattle.std.specs.Prelude.{◌≡◌, ◌↔◌, ℕ, ◌<◌, ◌≤◌, ◌^◌, [], List, Bool, length, IsOk, IfOk, OnOk, Some, None};
-ghost use Rattle.std.specs.List.{AllByRecursion};
+ghost use Rattle.std.specs.Prelude.{◌≡◌, ◌↔◌, ℕ, ◌<◌, ◌≤◌, ◌^◌, [], Bool, length, IsOk, IfOk, OnOk, Some, None};
 ghost use Rattle.op_constraints.specs.Meets.{IsClosed, Meets};
-ghost use Rattle.op_constraints.specs.Walks.{mandatory};
-ghost use Rattle.derivations.specs.Follows.{LogFollows, is_clause, clauses, log_fault};
+ghost use Rattle.derivations.specs.Follows.{LogFollows, clauses, log_fault};
 ghost use Rattle.derivations.specs.Accepted.{IsAccepted};
 ghost use Rattle.derivations.specs.Laws.{AllHold, IsRight};
 ghost use Rattle.derivation_check.specs.Checking.{IsReady};
-ghost use Rattle.derivation_check.specs.Faults.{unless, size_fault, chosen_fault, refused_fault, finding_fault, first_fault, verdict_of, walk_of, steps_of};
+ghost use Rattle.derivation_check.specs.Faults.{unless, chosen_fault, refused_fault, first_fault, verdict_of, walk_of, steps_of};
 
 use crate::denials::{denied_else, deny_set};
 use crate::hints::log_fault_of;

@@ -1,5 +1,5 @@
 // What a refutation denies.
-ghost use Rattle.std.specs.Prelude.{◌≡◌, ℕ, ◌<◌, ◌^◌, ◌==◌, ◌&&◌, ◌||◌, Bool, List, Some, not, length, map, slice_get};
+ghost use Rattle.std.specs.Prelude.{◌≡◌, ℕ, ◌<◌, ◌^◌, ◌==◌, ◌&&◌, ◌||◌, List, Some, length, map, slice_get};
 ghost use Rattle.std.specs.List.{list_all};
 ghost use Rattle.op_constraints.specs.Meets.{at};
 ghost use Rattle.op_constraints.specs.Walks.{is_among, choice, mandatory, walk_from};

@@ -1,5 +1,5 @@
 // What follows by its hints, and the first lemma of a log that doesn't.
-ghost use Rattle.std.specs.Prelude.{◌≡◌, ℕ, [], ◌<◌, ◌≤◌, ◌^◌, IsTrue, length, take, map};
+ghost use Rattle.std.specs.Prelude.{◌≡◌, [], ◌<◌, ◌≤◌, ◌^◌, IsTrue, length, take};
 ghost use Rattle.std.specs.Option.{ok_or};
 ghost use Rattle.std.specs.List.{AllByRecursion};
 ghost use Rattle.op_constraints.specs.Meets.{IsWithin, IsClosed};

@@ -1,5 +1,5 @@
 // Whether the members that a hint names fit their constraint, in one pass over each of the two lists.
-ghost use Rattle.std.specs.Prelude.{◌≡◌, ℕ, ◌<◌, length, Some, None, slice_index_or};
+ghost use Rattle.std.specs.Prelude.{◌≡◌, ◌<◌, length, Some};
 ghost use Rattle.std.specs.List.{AllByRecursion};
 ghost use Rattle.derivations.specs.Clauses.{is_too_many};
 ghost use Rattle.derivation_check.specs.Members.{listed_in, are_struck};

@@ -1,5 +1,5 @@
 // The first constraint that a set breaks.
-ghost use Rattle.std.specs.Prelude.{◌≡◌, ℕ, ◌<◌, ◌^◌, length};
+ghost use Rattle.std.specs.Prelude.{◌≡◌, ◌<◌, ◌^◌, length};
 ghost use Rattle.std.specs.List.{AllByRecursion};
 ghost use Rattle.op_constraints.specs.Meets.{at, IsWithin, IsClosed};
 ghost use Rattle.derivation_check.specs.Faults.{broken_of, met_fault};

@@ -1,5 +1,5 @@
 // How a clause is read, literal by literal, against what is known of each variable.
-ghost use Rattle.std.specs.Prelude.{◌≡◌, ℕ, map, not};
+ghost use Rattle.std.specs.Prelude.{◌≡◌, map, not};
 ghost use Rattle.derivation_check.specs.Scan.{is_said, added, scanned, forced_by};
 
 use crate::marks::Marks;

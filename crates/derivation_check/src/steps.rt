@@ -1,5 +1,5 @@
 // Whether refutations follow from a log.
-ghost use Rattle.std.specs.Prelude.{◌≡◌, ℕ, length, IsTrue};
+ghost use Rattle.std.specs.Prelude.{◌≡◌, length, IsTrue};
 ghost use Rattle.std.specs.List.{AllByRecursion};
 ghost use Rattle.op_constraints.specs.Meets.{IsClosed};
 ghost use Rattle.derivations.specs.Follows.{is_clause, clauses, fault_of};

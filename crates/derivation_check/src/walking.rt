@@ -1,5 +1,5 @@
 // Walking by a certificate's numbers.
-ghost use Rattle.std.specs.Prelude.{◌≡◌, ℕ, ◌<◌, ◌^◌, ◌==◌, [], nat_lt, not, length, IfNone, Some};
+ghost use Rattle.std.specs.Prelude.{◌≡◌, ◌<◌, ◌^◌, nat_lt, length, IfNone, Some};
 ghost use Rattle.op_constraints.specs.Walks.{choice, waiting, mandatory, walk};
 ghost use Rattle.derivation_check.specs.Faults.{is_ended, walk_fault};
 

@@ -15,7 +15,7 @@ get_left [] ys k x e = absurd (let bad : None ≡ Some x = e in cc)
 get_left (z ∷ zs) ys zero x e = e
 get_left (z ∷ zs) ys (suc k) x e = get_left zs ys k x e
 
-ok_some : (o : Option (List Lit)) (cause : LogCause) (clause : List Lit) → ok_or o cause ≡ Ok clause → o ≡ Some clause
+pub ok_some : (o : Option (List Lit)) (cause : LogCause) (clause : List Lit) → ok_or o cause ≡ Ok clause → o ≡ Some clause
 ok_some None cause clause e = absurd (let bad : Err cause ≡ Ok clause = e in cc)
 ok_some (Some x) cause clause e = cc
 

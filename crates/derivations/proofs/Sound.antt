@@ -3,7 +3,6 @@ use Rattle.std.proofs.Common.{◌≡◌, ℕ, zero, suc, ◌+◌, ◌≤◌, ◌
 use Rattle.std.specs.Option.{option_and_then, option_map, option_or, ok_or}
 use Rattle.std.specs.List.{list_any, list_all, filter, count_by, AllByRecursion}
 use Rattle.std.proofs.lemmas.Bool.{cases_Bool, not-true, not-false, or_cases, or_left, or_right, or_parts, and_parts, and_from, eqb-true, leb-true, both_ways, true_from_ne_false, eqb-false, ne_eqb, eq-eqb, cases_eq, or_from, not_from_false, cond-true, cond-false}
-use Rattle.std.proofs.lemmas.List.Sums.{sum_by-cons}
 use mathlib.Core.Bool.{beq}
 use Rattle.op_constraints.specs.declared.Lit.{Lit}
 use Rattle.op_constraints.specs.declared.Constraint.{Constraint}
@@ -19,6 +18,7 @@ use Rattle.derivations.specs.declared.LogFault.{LogFault}
 use Rattle.derivations.specs.Clauses.{positive, negative, denial, is_same, is_in, lit_holds, clause_holds, is_too_many, given_clause}
 use Rattle.op_constraints.specs.Kept.{is_distinct}
 use Rattle.derivations.specs.Follows.{clause_of, left, sole, forced, after_forced, unit_fault, is_nothing, last_fault, hints_fault, all_hints_fault, is_clause, fault_of, log_fault, clauses}
+use Rattle.op_constraints.proofs.Full.{count_by-cons}
 use Rattle.op_constraints.proofs.WalkLaws.{under}
 use Rattle.derivations.specs.Laws.{AllHold}
 
@@ -33,7 +33,7 @@ denied false false = refl
 pub lit_holds-denial : (set : ℕ → Bool) (l : Lit) → lit_holds set (denial l) ≡ not (lit_holds set l)
 lit_holds-denial set l = denied l.positive (set l.var)
 
-beq_same : (a b : Bool) → beq a b ≡ true → a ≡ b
+pub beq_same : (a b : Bool) → beq a b ≡ true → a ≡ b
 beq_same true true e = refl
 beq_same true false e = cc
 beq_same false true e = cc
@@ -191,10 +191,6 @@ among-all set m (n ∷ ns) a e =
       | inr rest ↦ among-all set m ns parts.1 rest
     ]
 
--- count_by of std adds from the left, so it doesn't compute at a first element
-pub count_by-cons : (set : ℕ → Bool) (m : ℕ) (ms : List ℕ) (b : Bool) → set m ≡ b → count_by set (m ∷ ms) ≡ cond b 1 0 + count_by set ms
-count_by-cons set m ms b e = sum_by-cons (λ v. cond (set v) 1 0) m ms ∙ ap (λ c. cond c 1 0 + count_by set ms) e
-
 -- as many distinct members as are named are in the set
 pub named_count : (set : ℕ → Bool) (members named : List ℕ) → is_distinct named ≡ true → list_all (λ v. is_among members v) named ≡ true → list_all set named ≡ true → length named ≤ count_by set members
 named_count set [] [] d w a = omega arith
@@ -314,11 +310,11 @@ pub AllHold-push : (set : ℕ → Bool) (cs : List (List Lit)) (c : List Lit) �
 AllHold-push set [] c a h = (h, tt)
 AllHold-push set (k ∷ ks) c a h = (a.0, AllHold-push set ks c a.1 h)
 
-or_none : {A : Type 0} (o p : Option A) → option_or o p ≡ None → (o ≡ None) × (p ≡ None)
+pub or_none : {A : Type 0} (o p : Option A) → option_or o p ≡ None → (o ≡ None) × (p ≡ None)
 or_none None p e = (refl, e)
 or_none (Some x) p e = absurd (let bad : Some x ≡ None = e in cc)
 
-map_none : {A B : Type 0} (f : A → B) (o : Option A) → option_map f o ≡ None → o ≡ None
+pub map_none : {A B : Type 0} (f : A → B) (o : Option A) → option_map f o ≡ None → o ≡ None
 map_none f None e = refl
 map_none f (Some x) e = absurd (let bad : Some (f x) ≡ None = e in cc)
 

@@ -1,5 +1,5 @@
 // What takes a search's lemmas, one by one.
-ghost use Rattle.std.specs.Prelude.{◌≡◌, ℕ, [], ◌∷◌, ◌++◌, ◌+◌, ◌<◌, ◌^◌, List, length, IfOk, OnOk, OnErr};
+ghost use Rattle.std.specs.Prelude.{◌≡◌, [], ◌∷◌, ◌++◌, ◌+◌, ◌<◌, ◌^◌, List, length, IfOk, OnOk, OnErr};
 ghost use Rattle.derivations.specs.declared.Lemma.{Lemma};
 
 use crate::{Hint, Lemma, Log};

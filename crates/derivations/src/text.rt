@@ -1,5 +1,5 @@
 // The text of a certificate.
-ghost use Rattle.std.specs.Prelude.{◌≡◌, ℕ, [], ◌∷◌, ◌++◌, OnOk, IfOk, Ok};
+ghost use Rattle.std.specs.Prelude.{◌≡◌, ◌∷◌, ◌++◌, OnOk, IfOk, Ok};
 ghost use Rattle.std.specs.List.{AllByRecursion};
 ghost use Rattle.std.specs.Fmt.{decimal};
 ghost use Rattle.derivations.specs.Text.{joined, token, lit_text, later_member, members_text, hint_text, clause_text, lemma_line, step_line, finding_word, finding_lines, certificate_text};

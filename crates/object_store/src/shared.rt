@@ -5,7 +5,7 @@ ghost use Rattle.cluster_objects.specs.Keys.{key_cmp};
 ghost use Rattle.object_store.specs.Seen.{slot_seen};
 
 use cluster_history::Slot;
-use cluster_objects::Key;
+use cluster_objects::{Key, compare_keys};
 use olm_base::Name;
 use std::alloc::{AllocError, Global};
 use std::marker::Model;
@@ -116,5 +116,5 @@ impl View {
 fn stands_at(key: &Key, other: &Key) -> bool
     ensures { result ≡ is_at (key_cmp key.now) other.now }
 {
-    key.cmp(other).is_eq()
+    compare_keys(key, other).is_eq()
 }

@@ -1,5 +1,6 @@
 -- What a denial means: it is what a refutation needs, and no walk that chooses all of its set succeeds.
 use Rattle.std.proofs.Common.{◌≡◌, ℕ, ◌==◌, Bool, true, false, not, cond, ◌&&◌, ◌||◌, List, [], ◌∷◌, ◌++◌, map, refl, sym, ap, ◌∙◌, inl, inr, Some, None, eqb, ◌⊎◌}
+use Rattle.std.proofs.Math.Bool.{and-false}
 use Rattle.std.specs.List.{list_all, AllByRecursion}
 use Rattle.std.proofs.lemmas.Bool.{or_cases, or_left, or_right, or_from, or_parts, and_parts, and_from, eqb-true, eq-eqb, both_ways, not_from_true, not-true, false_from_ne_true, cond-true}
 use mathlib.Core.Bool.{beq}
@@ -16,16 +17,10 @@ use Rattle.derivations.specs.Clauses.{negative, denial, is_same, is_in, lit_hold
 use Rattle.derivations.specs.Follows.{clause_of, clauses, left, is_nothing, last_fault, all_hints_fault, is_clause, LogFollows}
 use Rattle.derivations.specs.Accepted.{denies, Refutes, contains_clause, ContainsNoGiven}
 use Rattle.derivations.proofs.Grows.{clause_of-grows}
-use Rattle.derivations.proofs.Sound.{fault_of-holds, log_fault-hold}
+use Rattle.derivations.proofs.Sound.{beq_same, fault_of-holds, log_fault-hold}
 use Rattle.preference_search.specs.Denials.{is_denied, IsDenial, AllowsSet}
 
 -- Literals
-
-pub beq_same : (a b : Bool) → beq a b ≡ true → a ≡ b
-beq_same true true e = refl
-beq_same true false e = cc
-beq_same false true e = cc
-beq_same false false e = refl
 
 pub beq_refl : (b : Bool) → beq b b ≡ true
 beq_refl true = refl
@@ -54,11 +49,7 @@ in_denials (k ∷ ks) l = ap (λ b. ((k.var == l.var) && b) || is_in (map denial
 
 -- a literal is in what denies these exactly where it denies one of them
 pub in_negatives : (vs : List ℕ) (l : Lit) → is_in (map negative vs) l ≡ (not l.positive && is_among vs l.var)
-in_negatives [] l = sym (and_false (not l.positive))
-  where
-    and_false : (b : Bool) → (b && false) ≡ false
-    and_false true = refl
-    and_false false = refl
+in_negatives [] l = sym (and-false (not l.positive))
 in_negatives (v ∷ vs) l = ap (λ b. ((v == l.var) && beq false l.positive) || b) (in_negatives vs l) ∙ distribute l.positive (v == l.var) (is_among vs l.var)
   where
     distribute : (p a b : Bool) → ((a && beq false p) || (not p && b)) ≡ (not p && (a || b))

@@ -1,5 +1,6 @@
 -- Which clauses of a constraint deny a set, and which set a constraint allows.
-use Rattle.std.proofs.Common.{◌≡◌, ℕ, zero, suc, ◌+◌, ◌≤◌, ◌<◌, ◌==◌, Bool, true, false, not, cond, ◌&&◌, ◌||◌, List, [], ◌∷◌, length, map, refl, sym, ap, ◌∙◌, subst, arith, inl, inr, Option, Some, None, Result, Ok, Err, IfOk, IfSome, IfNone, nat_lt, eqb}
+use Rattle.std.proofs.Common.{◌≡◌, ℕ, zero, suc, ◌+◌, ◌≤◌, ◌<◌, ◌==◌, Bool, true, false, not, cond, ◌&&◌, List, [], ◌∷◌, length, map, refl, sym, ap, ◌∙◌, subst, arith, inl, inr, Option, Some, None, Result, Ok, Err, IfOk, IfSome, IfNone, nat_lt, eqb}
+use Rattle.std.proofs.Math.Bool.{or-false}
 use Rattle.std.specs.Option.{ok_or, option_and_then}
 use Rattle.std.specs.List.{list_all, count_by}
 use Rattle.std.proofs.lemmas.Bool.{cases_eq, or_left, and_parts, and_from, both_ways, not_from_false, false_from_ne_true, eq-eqb, eqb-true, ne_eqb, lt-ltb, cond-true, cond-false}
@@ -82,12 +83,8 @@ conflict-denies set v o place d lits hints both =
           (and_from (set v) (set o && true) inside.0 (and_from (set o) true inside.1 refl)))
     ]
   where
-    or_false : (b : Bool) → (b || false) ≡ true → b ≡ true
-    or_false true e = refl
-    or_false false e = e
-
     only : (o v : ℕ) → is_among (o ∷ []) v ≡ true → o ≡ v
-    only o v e = eqb-true o v (or_false (eqb o v) e)
+    only o v e = eqb-true o v (sym (or-false (eqb o v)) ∙ e)
 
 -- What is allowed
 

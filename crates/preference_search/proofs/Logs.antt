@@ -18,15 +18,12 @@ use Rattle.derivations.specs.declared.LogFault.{LogFault}
 use Rattle.derivations.specs.Clauses.{negative, denial, is_same, is_in}
 use Rattle.derivations.specs.Follows.{clauses, is_clause, fault_of, log_fault, Follows, LogFollows}
 use Rattle.derivations.specs.Accepted.{contains_clause, ContainsNoGiven, is_tautology, IsIrredundant}
+use Rattle.derivations.proofs.Sound.{or_none}
 use Rattle.derivation_check.proofs.LogSteps.{log_within}
 use Rattle.preference_search.specs.Denials.{is_denied, IsDenial, AllowsSet, NoLemmaDenies}
 use Rattle.preference_search.specs.Searching.{IsLog}
 use Rattle.preference_search.proofs.Denying.{same_itself, in_negatives, contains-no_given, contains-no_lemma, clauses-push}
 use Rattle.preference_search.proofs.Hints.{negatives-clause}
-
-no-fault : {A : Type 0} (o p : Option A) → option_or o p ≡ None → (o ≡ None) × (p ≡ None)
-no-fault None p e = (refl, e)
-no-fault (Some x) p e = absurd (let bad : Some x ≡ None = e in cc)
 
 fault-push : (problem : List (List Constraint)) (earlier : List (List Lit)) (log : List Lemma) (lemma : Lemma) → log_fault problem earlier log ≡ None → fault_of problem (earlier ++ clauses log) lemma.lits lemma.hints ≡ None → log_fault problem earlier (log ++ lemma ∷ []) ≡ None
 fault-push problem earlier [] lemma e f =
@@ -35,7 +32,7 @@ fault-push problem earlier [] lemma e f =
 fault-push problem earlier (l ∷ ls) lemma e f =
     let name : LogCause → LogFault = λ cause. record { number = length earlier; cause = cause } in
     let here : Option LogFault = option_map name (fault_of problem earlier l.lits l.hints) in
-    let parts = no-fault here (log_fault problem (earlier ++ l.lits ∷ []) ls) e in
+    let parts = or_none here (log_fault problem (earlier ++ l.lits ∷ []) ls) e in
     let rest = fault-push problem (earlier ++ l.lits ∷ []) ls lemma parts.1
     (ap (λ cs. fault_of problem cs lemma.lits lemma.hints) (append_assoc earlier (l.lits ∷ []) (clauses ls)) ∙ f) in
     ap (λ o. option_or o (log_fault problem (earlier ++ l.lits ∷ []) (ls ++ lemma ∷ []))) parts.0 ∙ rest

@@ -6,6 +6,8 @@ use Rattle.std.proofs.lemmas.Bool.{or_left, or_right, eq-eqb}
 use Rattle.std.proofs.lemmas.List.{append-nil, length-append, take-append-le}
 use Rattle.op_constraints.specs.declared.Constraint.{Constraint}
 use Rattle.op_constraints.specs.Walks.{is_among, waiting, member, walk}
+use Rattle.op_constraints.proofs.Keeping.{all-push}
+use Rattle.op_constraints.proofs.Standing.{all-pop}
 use Rattle.derivations.specs.declared.Lemma.{Lemma}
 use Rattle.derivations.specs.declared.Refutation.{Refutation}
 use Rattle.derivations.specs.Clauses.{negative, is_in}
@@ -25,14 +27,6 @@ snoc-same (u ∷ xs) (v ∷ ys) x y e =
     let rest : xs ++ x ∷ [] ≡ ys ++ y ∷ [] = cc in
     let tail = snoc-same xs ys x y rest in
     (ap (λ w. w ∷ xs) head ∙ ap (λ ws. v ∷ ws) tail.0, tail.1)
-
-pub all-snoc : {A : Type 0} (P : A → Type 0) (xs : List A) (y : A) → AllByRecursion P xs → P y → AllByRecursion P (xs ++ y ∷ [])
-all-snoc P [] y a p = (p, tt)
-all-snoc P (x ∷ xs) y a p = (a.0, all-snoc P xs y a.1 p)
-
-pub all-unsnoc : {A : Type 0} (P : A → Type 0) (xs : List A) (y : A) → AllByRecursion P (xs ++ y ∷ []) → AllByRecursion P xs × P y
-all-unsnoc P [] y a = (tt, a.0)
-all-unsnoc P (x ∷ xs) y a = let rest = all-unsnoc P xs y a.1 in ((a.0, rest.0), rest.1)
 
 all-append : {A : Type 0} (P : A → Type 0) (xs ys : List A) → AllByRecursion P xs → AllByRecursion P ys → AllByRecursion P (xs ++ ys)
 all-append P [] ys a b = b
@@ -171,7 +165,7 @@ passed-next problem log ks chosen k v steps d p w m i n =
     let s : ℕ × ℕ × Refutation = (length ks, k, d) in
     record {
       complete = map-snoc (λ (s : ℕ × ℕ × Refutation). (s.0, s.1)) steps s ∙ (ap (λ ps. ps ++ (length ks, k) ∷ []) p.complete ∙ sym (pairs-more ks k));
-      each = all-snoc (IsPassedOver problem log (ks ++ (k + 1) ∷ [])) steps s
+      each = all-push (IsPassedOver problem log (ks ++ (k + 1) ∷ [])) steps s
           (steps-move problem log ks (k ∷ []) ((k + 1) ∷ []) steps low p.each)
           (record {
             chosen = chosen;
@@ -201,7 +195,7 @@ passed-last problem log ks chosen k steps s w p =
     let choice : s.0 ≡ length ks = ap (λ (q : ℕ × ℕ). q.0) parts.1 in
     let number : s.1 ≡ k = ap (λ (q : ℕ × ℕ). q.1) parts.1 in
     let low = low-or_last ks k steps (steps-low (ks ++ k ∷ []) steps parts.0) in
-    let (each, last) = all-unsnoc (IsPassedOver problem log (ks ++ (k + 1) ∷ [])) steps s p.each in
+    let (each, last) = all-pop (IsPassedOver problem log (ks ++ (k + 1) ∷ [])) steps s p.each in
     let walked : walk problem ks ≡ Some last.chosen = ap (walk problem) (sym (ap (λ i. take i (ks ++ (k + 1) ∷ [])) choice ∙ take-append_seam ks ((k + 1) ∷ []))) ∙ last.walked in
     let same : last.chosen ≡ chosen = (let e : Some last.chosen ≡ Some chosen = sym walked ∙ w in cc) in
     let P : List ℕ → Type 0 = λ vs. IsDenial problem log (is_among (vs ++ last.candidate ∷ [])) s.2 in

@@ -1,5 +1,5 @@
 -- The partial walks that were tried, and that none of them comes after a walk that succeeds.
-use Rattle.std.proofs.Common.{◌≡◌, ℕ, zero, suc, ◌+◌, ◌≤◌, ◌<◌, List, [], ◌∷◌, ◌++◌, length, sym, ap, ◌∙◌, subst, arith, inl, inr, Some, append_assoc}
+use Rattle.std.proofs.Common.{◌≡◌, ℕ, zero, suc, ◌+◌, ◌≤◌, ◌<◌, List, [], ◌∷◌, ◌++◌, sym, ap, ◌∙◌, subst, arith, inl, inr, Some, append_assoc}
 use Rattle.std.proofs.lemmas.Bool.{cases_order}
 use Rattle.std.proofs.lemmas.List.{length-append}
 use Rattle.op_constraints.specs.declared.Constraint.{Constraint}
@@ -11,8 +11,9 @@ use Rattle.derivations.specs.Accepted.{Refutes}
 use Rattle.op_constraints.specs.Trails.{NoneBefore}
 use Rattle.preference_search.specs.Searching.{HasTried}
 use Rattle.op_constraints.proofs.Extending.{before-extended, before-more, before-next, before-first, rising-push, all-before}
+use Rattle.op_constraints.proofs.Keeping.{all-push}
+use Rattle.op_constraints.proofs.Trying.{some-there}
 use Rattle.preference_search.proofs.Denying.{refuted-walks}
-use Rattle.preference_search.proofs.Passing.{all-snoc}
 
 pub none-begun : (problem : List (List Constraint)) → NoneBefore problem []
 none-begun problem = λ earlier b s. b
@@ -61,9 +62,6 @@ first-fails problem ks k n f = n (zeros f.0) (zeros-before f.0 ks k) f.1
 pub tried-begun : (problem : List (List Constraint)) (next : List ℕ) → HasTried problem next 0
 tried-begun problem next = record { walks = []; many = omega arith; rising = tt; partial = tt; early = λ best b. tt; before = tt }
 
-not-empty : (ks : List ℕ) (k : ℕ) → ks ++ k ∷ [] ≡ [] → ⊥
-not-empty ks k e = let n = ap length e in let m = length-append ks (k ∷ []) in omega (arith, n, m)
-
 -- one partial walk more
 pub tried-enter : (problem : List (List Constraint)) (ks vs : List ℕ) (k n : ℕ) → HasTried problem (ks ++ k ∷ []) n → walk problem (ks ++ k ∷ []) ≡ Some vs → NoneBefore problem (ks ++ k ∷ []) → HasTried problem ((ks ++ k ∷ []) ++ 0 ∷ []) (n + 1)
 tried-enter problem ks vs k n t w none =
@@ -73,9 +71,9 @@ tried-enter problem ks vs k n t w none =
       walks = t.walks ++ here ∷ [];
       many = (let m = t.many in let size = length-append t.walks (here ∷ []) in omega (arith, m, size));
       rising = rising-push t.walks here t.rising t.before;
-      partial = all-snoc (IsPartial problem) t.walks here t.partial (record { chosen = vs; walked = w; some = not-empty ks k });
-      early = λ best b. all-snoc (λ js. IsBefore best js → ⊥) t.walks here (t.early best b) (λ before. none best before b.succeeds);
-      before = all-snoc (λ js. IsBefore js (here ++ 0 ∷ [])) t.walks here (all-before t.walks here (here ++ 0 ∷ []) t.before later) later;
+      partial = all-push (IsPartial problem) t.walks here t.partial (record { chosen = vs; walked = w; some = some-there ks k });
+      early = λ best b. all-push (λ js. IsBefore best js → ⊥) t.walks here (t.early best b) (λ before. none best before b.succeeds);
+      before = all-push (λ js. IsBefore js (here ++ 0 ∷ [])) t.walks here (all-before t.walks here (here ++ 0 ∷ []) t.before later) later;
     }
 
 -- what was tried stays tried

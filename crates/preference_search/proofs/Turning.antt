@@ -24,7 +24,9 @@ use Rattle.preference_search.specs.Searching.{ArePassedOver, HasTried, IsLog, Is
 use Rattle.op_constraints.proofs.Extending.{before-number}
 use Rattle.op_constraints.specs.Trails.{NoneBefore}
 use Rattle.preference_search.proofs.Denying.{undenied-less, allowed-less, denial-without, denial-refutes}
-use Rattle.preference_search.proofs.Passing.{snoc-same, all-snoc, all-unsnoc, LastStep, passed-down, passed-next, passed-grows, passed-cut, steps-enough}
+use Rattle.op_constraints.proofs.Keeping.{all-push}
+use Rattle.op_constraints.proofs.Standing.{all-pop}
+use Rattle.preference_search.proofs.Passing.{snoc-same, LastStep, passed-down, passed-next, passed-grows, passed-cut, steps-enough}
 use Rattle.preference_search.proofs.Trying.{none-down, none-next, none-up, first-fails, tried-enter, tried-later, tried-wide}
 use Rattle.preference_search.proofs.Logs.{all-denied, log-push, last-denies}
 use Rattle.derivations.specs.declared.Hint.TheVariants.{Lemma as LemmaHint}
@@ -62,7 +64,7 @@ at-taken problem budget log numbers chosen bits steps k v owner place members t 
     let stands = stands-take problem bits chosen numbers members n.rest k v t.stands n.waits h is in
     record {
       stands = stands;
-      small = all-snoc (λ i. i < VAR_LIMIT) numbers k t.small (omega (arith, few, h));
+      small = all-push (λ i. i < VAR_LIMIT) numbers k t.small (omega (arith, few, h));
       sound = t.sound;
       passed = t.passed;
       none_before = t.none_before;
@@ -148,7 +150,7 @@ gone problem budget log numbers ks end chosen bits steps k v after count d a eno
     let Q : List ℕ → Type 0 = λ ns. ArePassedOver problem log ns steps in
     let R : List ℕ → Type 0 = λ ns. NoneBefore problem ns in
     let T : List ℕ → Type 0 = λ ns. HasTried problem (ns ++ after ∷ []) count in
-    let small = all-unsnoc (λ i. i < VAR_LIMIT) ks k (subst P e a.small) in
+    let small = all-pop (λ i. i < VAR_LIMIT) ks k (subst P e a.small) in
     let one = length-append ks (k ∷ []) in
     let walked : walk problem (ks ++ k ∷ []) ≡ Some end = ap (walk problem) (sym e) ∙ a.stands.walked in
     let later : IsBefore ((ks ++ k ∷ []) ++ after ∷ []) (ks ++ (k + 1) ∷ []) =
@@ -198,7 +200,7 @@ pub number-small : (problem : List (List Constraint)) (budget : ℕ) (log : List
     → k < VAR_LIMIT
 number-small problem budget log numbers ks end bits steps k after count a e =
     let P : List ℕ → Type 0 = λ ns. AllByRecursion (λ i. i < VAR_LIMIT) ns in
-    (all-unsnoc (λ i. i < VAR_LIMIT) ks k (subst P e a.small)).1
+    (all-pop (λ i. i < VAR_LIMIT) ks k (subst P e a.small)).1
 
 -- a clause that doesn't name the last candidate denies the walk before it too
 pub record IsBackAt (problem : List (List Constraint)) (budget : ℕ) (log : List Lemma) (numbers chosen : List ℕ) (bits : List Bool) (steps : List (ℕ × ℕ × Refutation)) (k : ℕ) (d : Refutation) : Type 0 where

@@ -1,5 +1,5 @@
 // Decisions.
-ghost use Rattle.std.specs.Prelude.{◌≡◌, length, IfOk};
+ghost use Rattle.std.specs.Prelude.{◌≡◌, IfOk};
 ghost use Rattle.op_constraints.specs.Meets.{IsClosed};
 ghost use Rattle.preference_search.specs.Decided.{IsDecision};
 ghost use Rattle.preference_search.specs.State.{IsFound, IsRefuted, IsSpent};

@@ -1,10 +1,10 @@
 // What denies the set of things that were chosen: a clause of the problem, or a lemma.
-ghost use Rattle.std.specs.Prelude.{◌≡◌, ℕ, [], ◌∷◌, ◌++◌, ◌+◌, ◌<◌, ◌≤◌, ◌^◌, List, true, false, ◌&&◌, length, map, slice_get, Some, IfOk, IfNone, IfSome};
+ghost use Rattle.std.specs.Prelude.{◌≡◌, ℕ, [], ◌∷◌, ◌<◌, ◌≤◌, ◌^◌, List, true, false, ◌&&◌, length, map, slice_get, Some, IfOk, IfNone, IfSome};
 ghost use Rattle.std.specs.List.{AllByRecursion, list_all, count_by};
 ghost use Rattle.std.specs.Option.{option_copied};
 ghost use Rattle.op_constraints.specs.declared.TheConstants.{VAR_LIMIT};
 ghost use Rattle.op_constraints.specs.Meets.{constraint_at, at, IsWithin, IsClosed};
-ghost use Rattle.op_constraints.specs.Kept.{is_distinct, HasDistinctMembers, IsKept};
+ghost use Rattle.op_constraints.specs.Kept.{is_distinct, HasDistinctMembers};
 ghost use Rattle.op_constraints.specs.declared.Constraint.{Constraint};
 ghost use Rattle.op_constraints.specs.declared.Lit.{Lit};
 ghost use Rattle.derivations.specs.declared.Lemma.{Lemma};

@@ -3,7 +3,6 @@ ghost use Rattle.std.specs.Prelude.{◌≡◌, ℕ, [], ◌∷◌, ◌++◌, ◌
 ghost use Rattle.op_constraints.specs.declared.Lit.{Lit};
 ghost use Rattle.op_constraints.specs.declared.Constraint.{Constraint};
 ghost use Rattle.op_constraints.specs.Meets.{at};
-ghost use Rattle.derivations.specs.declared.Lemma.{Lemma};
 ghost use Rattle.derivations.specs.Clauses.{negative, is_in};
 ghost use Rattle.derivations.specs.Follows.{clauses, LogFollows};
 ghost use Rattle.preference_search.specs.Denials.{is_denied, IsDenial, NoLemmaDenies};

@@ -1,5 +1,5 @@
 // Lists that are looked up by variable, and the constraints that name each variable.
-ghost use Rattle.std.specs.Prelude.{◌≡◌, ℕ, [], ◌∷◌, ◌<◌, ◌≤◌, ◌+◌, true, length, replicate, slice_get, Some, IfOk, OnOk, IfNone, IfSome};
+ghost use Rattle.std.specs.Prelude.{◌≡◌, ℕ, [], ◌<◌, ◌≤◌, ◌+◌, true, length, replicate, slice_get, Some, IfOk, OnOk, IfNone, IfSome};
 ghost use Rattle.op_constraints.specs.declared.TheConstants.{VAR_LIMIT};
 ghost use Rattle.op_constraints.specs.declared.Constraint.{Constraint};
 ghost use Rattle.op_constraints.specs.Walks.{is_among};

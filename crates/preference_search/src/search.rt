@@ -3,7 +3,7 @@ ghost use Rattle.std.specs.Prelude.{◌≡◌, ℕ, List, [], ◌∷◌, ◌++�
 ghost use Rattle.std.specs.List.{AllByRecursion};
 ghost use Rattle.op_constraints.specs.declared.TheConstants.{VAR_LIMIT};
 ghost use Rattle.op_constraints.specs.Meets.{at, IsClosed};
-ghost use Rattle.op_constraints.specs.Walks.{is_among, walk, waiting, IsBefore};
+ghost use Rattle.op_constraints.specs.Walks.{is_among, IsBefore};
 ghost use Rattle.derivations.specs.declared.Lemma.{Lemma};
 ghost use Rattle.derivations.specs.Clauses.{is_in, negative};
 ghost use Rattle.derivations.specs.Follows.{Follows, LogFollows};

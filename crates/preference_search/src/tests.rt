@@ -1,8 +1,7 @@
-ghost use Rattle.std.specs.Prelude.{◌≡◌, ◌≤◌, ◌<◌, ◌^◌, IsTrue, length, IfOk};
+ghost use Rattle.std.specs.Prelude.{◌≤◌, ◌<◌, IsTrue, length, IfOk};
 ghost use Rattle.std.specs.List.{AllByRecursion};
 ghost use Rattle.op_constraints.specs.Kept.{HasFewMembers};
 ghost use Rattle.op_constraints.specs.Meets.{IsClosed};
-ghost use Rattle.derivation_check.specs.Faults.{walk_of, steps_of};
 ghost use Rattle.preference_search.specs.Tests.{IsShort};
 
 use super::*;

@@ -1,5 +1,5 @@
 // Texts cut in two.
-ghost use Rattle.std.specs.Prelude.{◌≡◌, ◌==◌, ◌<◌, ◌∷◌, [], MatchOption, IfNone, IfSome, length, Some, None, false};
+ghost use Rattle.std.specs.Prelude.{◌≡◌, ◌==◌, ◌<◌, ◌∷◌, [], MatchOption, IfNone, IfSome, length, Some, None};
 ghost use Rattle.std.specs.List.{position};
 ghost use Rattle.derivations.specs.Reading as spec;
 

@@ -8,7 +8,7 @@ ghost use Rattle.derivations.specs.declared.reading.tokens.LineFault.TheVariants
 
 use crate::reading::cuts::cut;
 use crate::reading::tokens::{LineFault, Written};
-use olm_base::{Many, Memory};
+use olm_base::Many;
 use std::alloc::Global;
 
 // The items so far, and whether a number among them was written wrong.

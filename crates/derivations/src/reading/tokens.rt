@@ -1,14 +1,12 @@
 // The parts of a line: numbers, literals, hints and clauses.
-ghost use Rattle.std.specs.Prelude.{◌≡◌, ◌<◌, ◌≤◌, ◌^◌, ◌∷◌, [], List, ℕ, Result, true, false, length, IfNone, IfSome, MatchOption, Some, None};
+ghost use Rattle.std.specs.Prelude.{◌≡◌, ◌<◌, ◌≤◌, ◌^◌, [], List, ℕ, Result, true, false, IfNone, IfSome, Some, None};
 ghost use Rattle.std.specs.Char.{is_ascii_digit};
 ghost use Rattle.std.specs.List.{list_all};
 ghost use Rattle.olm_base.specs.Outcome.{Gives};
 ghost use Rattle.derivations.specs.Reading as spec;
 ghost use Rattle.derivations.specs.Reading.{is_free_in_line};
 
-use crate::reading::each::each;
-use crate::{Hint, Refutation};
-use olm_base::{Many, Memory};
+use olm_base::Memory;
 use op_constraints::{Lit, VarId};
 use std::alloc::Global;
 

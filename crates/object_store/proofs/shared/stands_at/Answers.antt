@@ -1,8 +1,6 @@
 use Rattle.std.proofs.Common.{ap, ◌∙◌}
 use Rattle.std.specs.Ordering.{is_eq}
-use Rattle.cluster_objects.specs.Keys.{key_cmp}
 use Rattle.object_store.proofs.shared.stands_at.Goals as goal
 
 pub returns : goal.returns
-unfolding key_cmp
-returns c = c.is_eq.ensures ∙ ap is_eq c.cmp.ensures
+returns c = c.is_eq.ensures ∙ ap is_eq c.compare_keys.ensures

@@ -1,3 +1,4 @@
 pub mod Appending
 pub mod Histories
+pub mod Missing
 pub mod Showing

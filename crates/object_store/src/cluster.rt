@@ -77,3 +77,30 @@ pub trait Cluster {
         ensures cause { HasCause (faults self.old) (faults self.new) (fault_failed result ≡ true) }
         ensures ready { ready self.new ≡ is_ok result };
 }
+
+/// A borrowed store passes each call on.
+impl<C: Cluster> Cluster for &mut C {
+    ghost history = { λ c. C.history c.now };
+
+    ghost limit = { λ c. C.limit c.now };
+
+    ghost fits = { C.fits };
+
+    ghost faults = { λ c. C.faults c.now };
+
+    ghost ready = { λ c. C.ready c.now };
+
+    ghost damage = { λ c. C.damage c.now };
+
+    fn snapshot(&mut self, alloc: Global, namespace: &Name) -> Result<View, ClusterFault> {
+        (**self).snapshot(alloc, namespace)
+    }
+
+    fn put(&mut self, alloc: Global, write: Write) -> PutAnswer {
+        (**self).put(alloc, write)
+    }
+
+    fn reopen(&mut self, alloc: Global) -> Result<(), ClusterFault> {
+        (**self).reopen(alloc)
+    }
+}

@@ -3,12 +3,16 @@
 
 mod cluster;
 mod laws;
+mod mem;
+mod miss;
 mod shared;
 mod sure;
 
 pub use cluster::{Cluster, ClusterFault, PutAnswer};
 pub use cluster_history::{Base, Slot};
 pub use laws::{puts_keep_histories, views_show};
+pub use mem::MemCluster;
+pub use miss::Miss;
 pub use shared::{Shared, View};
 pub use sure::SureCluster;
 

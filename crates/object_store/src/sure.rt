@@ -267,7 +267,7 @@ impl Cluster for SureCluster {
 }
 
 // Lets a write go.
-fn discard(_write: Write) {}
+pub(crate) fn discard(_write: Write) {}
 
 fn snapshot_of(
     alloc: Global,

@@ -20,4 +20,6 @@ pub use sure::SureCluster;
 pub const WRITE_LIMIT: u64 = 16_777_216;
 
 #[cfg(test)]
+mod mem_tests;
+#[cfg(test)]
 mod tests;

@@ -29,7 +29,7 @@ fn object(alloc: Global, step: u64) -> Result<Object, Fail> {
 }
 
 // The write of the object of a step, or a removal.
-fn write(
+pub(crate) fn write(
     alloc: Global,
     expect: u64,
     namespace: &str,

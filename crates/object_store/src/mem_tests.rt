@@ -49,7 +49,7 @@ fn open(alloc: Global, cluster: &mut MemCluster) -> Told {
     }
 }
 
-fn told(alloc: Global, cluster: &mut MemCluster, call: Call) -> Result<Told, Fail> {
+fn answer_of(alloc: Global, cluster: &mut MemCluster, call: Call) -> Result<Told, Fail> {
     match call {
         Call::Put(expect, name) => {
             let write = write(alloc, expect, "default", name, Some(0))?;
@@ -92,7 +92,7 @@ fn run(
     }
     let mut cluster = MemCluster::new(alloc, 2, Many::from_vec(missed));
     for (call, wanted) in calls {
-        assert_eq!(rt; told(alloc, &mut cluster, *call)?, *wanted);
+        assert_eq!(rt; answer_of(alloc, &mut cluster, *call)?, *wanted);
     }
     Ok(cluster.faults())
 }

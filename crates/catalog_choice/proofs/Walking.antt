@@ -1,11 +1,27 @@
 -- Going a walk again.
-use Rattle.std.proofs.Common.{◌≡◌, ℕ, suc, ◌+◌, ◌<◌, List, [], ◌∷◌, ◌++◌, length, drop, refl, sym, ap, ◌∙◌, subst, Option, Some, None, get_or, slice_index, drop-cons, add-one}
+use Rattle.std.proofs.Common.{◌≡◌, ℕ, zero, suc, ◌+◌, ◌<◌, List, [], ◌∷◌, ◌++◌, length, drop, refl, sym, ap, ◌∙◌, subst, arith, Option, Some, None, get_or, slice_get, slice_index, drop-cons, add-one}
 use Rattle.std.specs.Option.{option_and_then, option_map_or}
 use Rattle.std.proofs.Math.Seq.{drop-append_seam}
-use Rattle.std.proofs.lemmas.Option.{slice_get_within}
-use Rattle.derivation_check.proofs.WalkingLemmas.{member_get, offered}
 use Rattle.op_constraints.specs.declared.Constraint.{Constraint}
-use Rattle.op_constraints.specs.Walks.{choice, mandatory, member, picks, waiting, walk, walk_from}
+use Rattle.op_constraints.specs.Walks.{choice, first_of, mandatory, member, picks, waiting, walk, walk_from}
+
+member_get : (lists : List (List ℕ)) (n : ℕ) → member lists n ≡ slice_get (first_of lists) n
+member_get [] n = refl
+member_get (members ∷ lists) n = refl
+
+get_some : (xs : List ℕ) (i : ℕ) → i < length xs → slice_get xs i ≡ Some (slice_index xs i)
+get_some [] i h = absurd (omega arith)
+get_some (x ∷ xs) zero h = refl
+get_some (x ∷ xs) (suc i) h = get_some xs i (omega arith)
+
+got_low : (xs : List ℕ) (i v : ℕ) → slice_get xs i ≡ Some v → i < length xs
+got_low [] i v e = absurd (let bad : None ≡ Some v = e in cc)
+got_low (x ∷ xs) zero v e = omega arith
+got_low (x ∷ xs) (suc i) v e = let h = got_low xs i v e in omega arith
+
+offered : (problem : List (List Constraint)) (chosen : List ℕ) (n : ℕ) → n < length (choice problem chosen)
+    → member (waiting problem chosen) n ≡ Some (slice_index (choice problem chosen) n)
+offered problem chosen n h = member_get (waiting problem chosen) n ∙ get_some (choice problem chosen) n h
 
 -- where a walk goes on, the number lies in its list
 goes : (problem : List (List Constraint)) (chosen numbers end : List ℕ) (n : ℕ) → walk_from problem chosen (n ∷ numbers) ≡ Some end → n < length (choice problem chosen)
@@ -14,7 +30,7 @@ goes problem chosen numbers end n e =
     let at_member : (o : Option ℕ) → offers ≡ o → option_and_then (λ v. walk_from problem (chosen ++ v ∷ []) numbers) o ≡ Some end → n < length (choice problem chosen) =
     λ o. elim o as (λ o. offers ≡ o → option_and_then (λ v. walk_from problem (chosen ++ v ∷ []) numbers) o ≡ Some end → n < length (choice problem chosen)) [
       | None ↦ λ is so. absurd (let bad : None ≡ Some end = so in cc)
-      | Some v ↦ λ is so. slice_get_within (choice problem chosen) n v (sym (member_get (waiting problem chosen) n) ∙ is)
+      | Some v ↦ λ is so. got_low (choice problem chosen) n v (sym (member_get (waiting problem chosen) n) ∙ is)
     ] in
     at_member offers refl e
 

@@ -1,7 +1,7 @@
 -- There is a run of `verify` for each folder and each input.
-use Rattle.std.proofs.Common.{◌≡◌, ◌∙◌, ℕ, List, false, refl, sym, ap, subst, Option, Some, Result, Ok, Err, inl, inr}
+use Rattle.std.proofs.Common.{◌≡◌, ◌∙◌, ℕ, List, [], Bool, true, false, refl, sym, ap, subst, Option, Some, None, Result, Ok, Err, inl, inr}
 use Rattle.std.proofs.lemmas.Bool.{cases_Bool}
-use Rattle.olm_io.proofs.Told.{some_told}
+use Rattle.olm_io.specs.Outside.{IsTold}
 use Rattle.problem_build.specs.declared.building.BuildFault.TheVariants.{Memory}
 use Rattle.catalog_choice.specs.Asking.{name_of}
 use Rattle.olm_cli.specs.declared.causes.Cause.{Cause}
@@ -21,9 +21,13 @@ pub a_text_run : (package_name channel text certificate : List ℕ) → (ran : R
 a_text_run package_name channel text certificate =
     a_run (valid_of text) (λ read. Verdicts package_name channel text certificate) (λ read. a_verdict package_name channel text certificate)
 
+a_told : (left : Option (List ℕ)) → (text : List ℕ) × IsTold left text
+a_told None = ([], tt)
+a_told (Some text) = (text, refl)
+
 pub an_input_run : (package_name channel : List ℕ) (left : Option (List ℕ)) (text : List ℕ) → (ran : Ran) × InputRuns package_name channel left text ran
 an_input_run package_name channel left text =
-    let told = some_told left in
+    let told = a_told left in
     let found = within_limit told.0 in
     let ran = a_run found (TextRuns package_name channel text) (a_text_run package_name channel text) in
     (ran.0, (found, (told.0, told.1, refl), ran.1))
@@ -33,7 +37,7 @@ Stopping cause text ran = ran ≡ stopped cause
 
 a_stopped_run : (left : Option (List ℕ)) (cause : Cause) → (ran : Ran) × NoTextRuns left cause ran
 a_stopped_run left (SplitFile path fault) =
-    let told = some_told left in
+    let told = a_told left in
     let found = within_limit told.0 in
     let ran = a_run found (Stopping (SplitFile path fault)) (λ text. (stopped (SplitFile path fault), refl)) in
     (ran.0, (found, (told.0, told.1, refl), ran.1))

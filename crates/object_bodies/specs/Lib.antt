@@ -1,0 +1,5 @@
+pub mod Faults
+pub mod Fields
+pub mod Heads
+pub mod Statuses
+pub mod Bodies

@@ -1,10 +1,11 @@
 -- Records have one spelling, and what is written in front of a next gate is read there.
-use Rattle.std.proofs.Common.{◌≡◌, ◌<◌, Bool, true, false, cond, ℕ, List, [], ◌∷◌, ◌++◌, length, get_or, inl, inr, Option, Some, None, refl, sym, ap, ◌∙◌, subst, arith, append_assoc}
-use Rattle.std.proofs.lemmas.Bool.{and_parts, and_from, cases_lt, eq-eqb, eqb-true}
+use Rattle.std.proofs.Common.{◌≡◌, ◌<◌, ◌^◌, Bool, true, false, cond, ℕ, List, [], ◌∷◌, ◌++◌, length, get_or, inl, inr, Option, Some, None, refl, sym, ap, ◌∙◌, subst, arith, append_assoc}
+use Rattle.std.specs.Int.{w64, to_be_bytes}
+use Rattle.std.proofs.lemmas.Bool.{and_parts, and_from, cases_lt, eq-eqb, eqb-true, lt-ltb}
 use Rattle.std.proofs.lemmas.List.{get_or_append_left, get_or_past}
 use Rattle.cluster_objects.specs.declared.objects.Write.{Write}
 use Rattle.cluster_history.specs.History.{History, slot}
-use Rattle.payloads.specs.Form.{Form, ◌>>=◌, whole, number_form, bytes_form}
+use Rattle.payloads.specs.Form.{Form, ◌>>=◌, Spells, whole, number_form, bytes_form}
 use Rattle.payloads.specs.Laws.{AreBytes, IsForm}
 use Rattle.payloads.specs.Objects.{write_form}
 use Rattle.payloads.proofs.Combinators.{AreBytes-rest, bind_some, bind_is, parts_of, let_through}
@@ -50,7 +51,7 @@ record_is_form = record {
     written p = whole write_form p.0 >>= λ w. Some (w, p.1)
 
 -- the filters of a record that was read
-pub more : Write × List ℕ → Option (Write × List ℕ)
+more : Write × List ℕ → Option (Write × List ℕ)
 more r = cond (is_more r.1) (Some r) None
 
 agreeing : History → Write × List ℕ → Option (Write × List ℕ)
@@ -118,8 +119,37 @@ record-none bytes none =
     record_at-more bytes
     ∙ ap (λ (o : Option (List ℕ × List ℕ)). (o >>= λ p. whole write_form p.0 >>= λ w. Some (w, p.1)) >>= more) none
 
-pub record-some : (bytes payload rest : List ℕ) → bytes_form.read bytes ≡ Some (payload, rest) → record_at bytes ≡ ((whole write_form payload >>= λ w. Some (w, rest)) >>= more)
+record-some : (bytes payload rest : List ℕ) → bytes_form.read bytes ≡ Some (payload, rest) → record_at bytes ≡ ((whole write_form payload >>= λ w. Some (w, rest)) >>= more)
 unfolding record_form
 record-some bytes payload rest some =
     record_at-more bytes
     ∙ ap (λ (o : Option (List ℕ × List ℕ)). (o >>= λ p. whole write_form p.0 >>= λ w. Some (w, p.1)) >>= more) some
+
+-- the next gate is missing
+pub record-ends : (bytes payload rest : List ℕ) → bytes_form.read bytes ≡ Some (payload, rest) → length rest ≡ 0 → record_at bytes ≡ None
+unfolding more
+record-ends bytes payload [] some ends = record-some bytes payload [] some ∙ by_payload (whole write_form payload)
+  where
+    by_payload : (o : Option Write) → ((o >>= λ w. Some (w, [])) >>= more) ≡ None
+    by_payload None = refl
+    by_payload (Some w) = refl
+record-ends bytes payload (b ∷ rest) some ends = absurd (omega (arith, ends))
+
+-- the payload is a write, or none
+pub record-other : (bytes payload rest : List ℕ) → bytes_form.read bytes ≡ Some (payload, rest) → whole write_form payload ≡ None → record_at bytes ≡ None
+record-other bytes payload rest some none = record-some bytes payload rest some ∙ ap (λ (o : Option Write). (o >>= λ w. Some (w, rest)) >>= more) none
+
+pub record-is : (bytes payload rest : List ℕ) (w : Write) → bytes_form.read bytes ≡ Some (payload, rest) → 0 < length rest → whole write_form payload ≡ Some w → record_at bytes ≡ Some (w, rest)
+unfolding more
+record-is bytes payload [] w some longer is = absurd (omega (arith, longer))
+record-is bytes payload (b ∷ rest) w some longer is = record-some bytes payload (b ∷ rest) some ∙ ap (λ (o : Option Write). (o >>= λ w. Some (w, b ∷ rest)) >>= more) is
+
+-- a record's bytes, and the gate behind it
+pub piece-spelled : (w : Write) (payload : List ℕ) (gate : ℕ) → payload ≡ write_form.spell w → to_be_bytes w64 (length payload) ++ payload ++ gate ∷ [] ≡ record_form.spell w ++ gate ∷ []
+unfolding record_form bytes_form number_form
+piece-spelled w payload gate is = ap (λ (l : List ℕ). to_be_bytes w64 (length l) ++ l ++ gate ∷ []) is
+
+pub record-fits : (w : Write) (payload : List ℕ) → Spells write_form w payload → length payload < 2 ^ 64 → record_form.fits w ≡ true
+unfolding record_form bytes_form
+record-fits w payload spells short =
+    and_from (write_form.fits w) _ spells.0 (lt-ltb (length (write_form.spell w)) (2 ^ 64) (subst (λ (l : List ℕ). length l < 2 ^ 64) spells.1 short))

@@ -78,10 +78,17 @@ stands_short bytes short =
 pub other_header : (bytes : List ℕ) → 9 < length bytes → take 8 bytes ≢ header → stands bytes ≡ Damaged 0
 other_header bytes long apart = stands_long bytes long ∙ ap (chosen bytes) (same_text-false (take 8 bytes) header apart) ∙ chosen-false bytes
 
+pub same_header : (bytes : List ℕ) → 9 < length bytes → take 8 bytes ≡ header → stands bytes ≡ standing_from (length bytes) (Start empty) 8 (drop 8 bytes)
+same_header bytes long same =
+    stands_long bytes long
+    ∙ ap (λ (l : List ℕ). chosen bytes (same_text l header)) same
+    ∙ ap (chosen bytes) (same_text-refl header)
+    ∙ chosen-true bytes
+
 -- ---- from the writes to what the file stands for
 
 file_length : (ws : List Write) (tail bytes : List ℕ) → bytes ≡ header ++ records ws ++ tail → length bytes ≡ 8 + length (records ws) + length tail
-file_length ws tail bytes is = omega (arith, ap length is, length-append header (records ws ++ tail), length-append (records ws) tail, length-header)
+file_length ws tail bytes is = omega (arith, ap length is, length-append (header ++ records ws) tail, length-append header (records ws), length-header)
 
 -- what stands behind the writes is left to read
 pub file_read : (bytes tail : List ℕ) (ws : List Write) → AreWrites ws → is_more tail ≡ true → bytes ≡ header ++ records ws ++ tail → 9 < length bytes
@@ -89,13 +96,11 @@ pub file_read : (bytes tail : List ℕ) (ws : List Write) → AreWrites ws → i
 file_read bytes tail ws are some is long =
     let n = length bytes - length ws - 1 in
     let bound : length bytes ≡ length ws + suc n = omega (arith, file_length ws tail bytes is, count-records ws, some_length tail some) in
-    let front : take 8 bytes ≡ header = ap (take 8) is ∙ take_at header (records ws ++ tail) 8 length-header in
-    let rest : drop 8 bytes ≡ records ws ++ tail = ap (drop 8) is ∙ drop_at header (records ws ++ tail) 8 length-header in (
+    let is' : bytes ≡ header ++ (records ws ++ tail) = is ∙ append_assoc header (records ws) tail in
+    let front : take 8 bytes ≡ header = ap (take 8) is' ∙ take_at header (records ws ++ tail) 8 length-header in
+    let rest : drop 8 bytes ≡ records ws ++ tail = ap (drop 8) is' ∙ drop_at header (records ws ++ tail) 8 length-header in (
       n,
-      stands_long bytes long
-      ∙ ap (λ (l : List ℕ). chosen bytes (same_text l header)) front
-      ∙ ap (chosen bytes) (same_text-refl header)
-      ∙ chosen-true bytes
+      same_header bytes long front
       ∙ ap (λ (l : List ℕ). standing_from (length bytes) (Start empty) 8 l) rest
       ∙ ap (λ m. standing_from m (Start empty) 8 (records ws ++ tail)) bound
       ∙ walked (suc n) (Start empty) 8 ws tail are.fit are.agree some
@@ -136,7 +141,7 @@ file_ends bytes are long =
     reads (length bytes) (Start empty) 8 (drop 8 bytes) (rest_are bytes are) (some_from (drop 8 bytes) (omega (arith, sizes, front, long))) (omega (arith, sizes))
 
 whole_file : (bytes tail : List ℕ) (ws : List Write) → take 8 bytes ≡ header → drop 8 bytes ≡ records ws ++ tail → bytes ≡ header ++ records ws ++ tail
-whole_file bytes tail ws front rest = sym (take-append-drop 8 bytes) ∙ ap (λ (l : List ℕ). l ++ drop 8 bytes) front ∙ ap (λ (l : List ℕ). header ++ l) rest
+whole_file bytes tail ws front rest = sym (take-append-drop 8 bytes) ∙ ap (λ (l : List ℕ). l ++ drop 8 bytes) front ∙ ap (λ (l : List ℕ). header ++ l) rest ∙ sym (append_assoc header (records ws) tail)
 
 -- what a file that isn't short stands for, with its writes
 abbrev pub Found : List ℕ → Standing → Type 0

@@ -66,7 +66,7 @@ closed_gate n h place gate rest ne =
     step n h place gate rest
     ∙ ap (λ b. cond b (goes_on place (next_record h rest) (onward n h place rest)) (Stands h place)) (ne_eqb gate 1 ne)
 
-open_gate : (n : ℕ) (h : History) (place : ℕ) (behind : List ℕ) (r : Write × List ℕ) → next_record h behind ≡ Some r
+pub open_gate : (n : ℕ) (h : History) (place : ℕ) (behind : List ℕ) (r : Write × List ℕ) → next_record h behind ≡ Some r
     → standing_from (suc n) h place (1 ∷ behind) ≡ standing_from n (After r.0 h) (place + (1 + length behind - length r.1)) r.1
 open_gate n h place behind r e = step n h place 1 behind ∙ ap (λ o. goes_on place o (onward n h place behind)) e ∙ onward-is n h place behind r
 

@@ -1,9 +1,9 @@
 // The bytes of a record, written and read.
-ghost use Rattle.std.specs.Prelude.{◌≡◌, true, IfOk, length};
-ghost use Rattle.std.specs.Int.{w64, from_be_bytes};
-ghost use Rattle.payloads.specs.Form.{Spells, bytes_form, whole};
+ghost use Rattle.std.specs.Prelude.{◌≡◌, ◌<◌, ◌^◌, ◌++◌, ◌∷◌, [], true, length, IfOk};
+ghost use Rattle.std.specs.Int.{w64, to_be_bytes};
+ghost use Rattle.payloads.specs.Form.{bytes_form, number_form};
 ghost use Rattle.cluster_file.specs.Files.{record_at, record_form};
-ghost use Rattle.cluster_file.specs.Reading.{Lends, LendsParts};
+ghost use Rattle.cluster_file.specs.Reading.{Lends, LendsBytes};
 ghost use Rattle.cluster_file.specs.Writing.{piece};
 
 use cluster_objects::Write;
@@ -11,25 +11,29 @@ use olm_base::{Bytes, Memory};
 use payloads::{read_payload, write_payload};
 use std::alloc::Global;
 
-// The number that eight bytes spell.
-fn number_at(front: &[u8]) -> u64
-    requires { length front.now ≡ 8 }
-    ensures { result ≡ from_be_bytes w64 front.now }
-{
-    u64::from_be_bytes([
-        front[0], front[1], front[2], front[3], front[4], front[5], front[6], front[7],
-    ])
-}
-
-// The bytes behind a length, and those behind them.
-fn bytes_at(bytes: &[u8]) -> Option<(&[u8], &[u8])>
-    ensures { LendsParts (bytes_form.read bytes.now) result }
+// The number that stands in front, and the bytes behind it.
+#[tactic(auto, unfolding(payloads::specs::Form::number_form))]
+fn number_at(bytes: &[u8]) -> Option<(u64, &[u8])>
+    ensures { Lends (number_form.read bytes.now) result }
 {
     if bytes.len() < 8 {
         return None;
     }
     let (front, rest) = bytes.split_at(8);
-    let length = number_at(front);
+    let number = u64::from_be_bytes([
+        front[0], front[1], front[2], front[3], front[4], front[5], front[6], front[7],
+    ]);
+    Some((number, rest))
+}
+
+// The bytes behind a length, and those behind them. None exactly where either passes the end.
+#[tactic(auto, unfolding(payloads::specs::Form::bytes_form))]
+fn bytes_at(bytes: &[u8]) -> Option<(&[u8], &[u8])>
+    ensures { LendsBytes (bytes_form.read bytes.now) result }
+{
+    let Some((length, rest)) = number_at(bytes) else {
+        return None;
+    };
     if (rest.len() as u64) < length {
         return None;
     }
@@ -54,15 +58,24 @@ pub fn next_record(alloc: Global, bytes: &[u8]) -> Result<Option<(Write, &[u8])>
     }
 }
 
+// A payload behind its length, and a closed gate.
+fn closed_record(alloc: Global, payload: &[u8]) -> Result<Vec<u8>, Memory>
+    ensures short { length payload.now < 2 ^ 64 }
+    ensures bytes { IfOk result (λ v. v.items ≡ to_be_bytes w64 (length payload.now) ++ payload.now ++ 0 ∷ []) }
+{
+    let mut bytes = Vec::new(alloc);
+    bytes.extend_from_slice(&(payload.len() as u64).to_be_bytes())?;
+    bytes.extend_from_slice(payload)?;
+    bytes.push(0)?;
+    Ok(bytes)
+}
+
 /// What is written behind the last gate to add a write: its record, and a closed gate, 0. The write has a spelling.
 pub fn record_piece(alloc: Global, write: &Write) -> Result<Bytes, Memory>
     ensures fits { IfOk result (λ bytes. record_form.fits write.now ≡ true) }
     ensures piece { IfOk result (λ bytes. bytes ≡ piece write.now 0) }
 {
     let payload = write_payload(alloc, write)?;
-    let mut piece = Vec::new(alloc);
-    piece.extend_from_slice(&(payload.as_slice().len() as u64).to_be_bytes())?;
-    piece.extend_from_slice(payload.as_slice())?;
-    piece.push(0)?;
-    Ok(Bytes::from_vec(piece))
+    let bytes = closed_record(alloc, payload.as_slice())?;
+    Ok(Bytes::from_vec(bytes))
 }

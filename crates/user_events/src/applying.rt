@@ -9,7 +9,7 @@ use olm_base::{Bytes, Memory, Name};
 
 /// The owner of what stands there.
 pub(crate) fn kept_owner(old: Option<&Object>) -> Result<Option<Name>, Memory>
-    ensures { IfOk result (λ owner. owner ≡ spec.kept_owner (option_map (λ object. object.now) old)) }
+    ensures { IfOk result (λ owner. owner ≡ spec.kept_owner (option_map (λ object. object.now) old.entry)) }
 {
     match old {
         Some(object) => Ok(object.owner.clone()?),
@@ -18,7 +18,7 @@ pub(crate) fn kept_owner(old: Option<&Object>) -> Result<Option<Name>, Memory>
 }
 
 fn kept_csv(old: Option<&CsvStatus>, new: &CsvStatus) -> Result<CsvStatus, Memory>
-    ensures { IfOk result (λ csv. csv ≡ spec.kept_csv (option_map (λ csv. csv.now) old) new.now) }
+    ensures { IfOk result (λ csv. csv ≡ spec.kept_csv (option_map (λ csv. csv.now) old.entry) new.now) }
 {
     match old {
         Some(old) => Ok(CsvStatus {
@@ -38,7 +38,7 @@ fn kept_subscription(
     old: Option<&SubscriptionStatus>,
     new: &SubscriptionStatus,
 ) -> Result<SubscriptionStatus, Memory>
-    ensures { IfOk result (λ found. found ≡ spec.kept_subscription (option_map (λ found. found.now) old) new.now) }
+    ensures { IfOk result (λ found. found ≡ spec.kept_subscription (option_map (λ found. found.now) old.entry) new.now) }
 {
     match old {
         Some(old) => Ok(SubscriptionStatus {
@@ -50,7 +50,7 @@ fn kept_subscription(
 }
 
 fn kept_status(key: &Key, old: Option<&Object>, new: &Status) -> Result<Status, Memory>
-    ensures { IfOk result (λ status. status ≡ spec.kept_status key.now (option_map (λ object. object.now) old) new.now) }
+    ensures { IfOk result (λ status. status ≡ spec.kept_status key.now (option_map (λ object. object.now) old.entry) new.now) }
 {
     Ok(match new {
         Status::Plain => Status::Plain,
@@ -73,7 +73,7 @@ pub(crate) fn applied(
     old: Option<&Object>,
     seen: u64,
 ) -> Result<Object, Memory>
-    ensures { IfOk result (λ object. object ≡ spec.applied body status.now key.now (option_map (λ object. object.now) old) seen) }
+    ensures { IfOk result (λ object. object ≡ spec.applied body status.now key.now (option_map (λ object. object.now) old.entry) seen) }
 {
     Ok(Object {
         body,

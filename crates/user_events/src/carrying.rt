@@ -76,7 +76,7 @@ fn look<C: Cluster>(alloc: Global, key: &Key, cluster: &mut C) -> Result<View, O
 }
 
 fn object_of(there: Option<&Slot>) -> Option<&Object>
-    ensures { option_map (λ object. object.now) result ≡ (unwrap_or (option_map (λ there. there.now) there) never_written).object }
+    ensures { option_map (λ object. object.now) result ≡ (unwrap_or (option_map (λ there. there.now) there.entry) never_written).object }
 {
     match there {
         Some(there) => there.object.as_ref(),
@@ -85,7 +85,7 @@ fn object_of(there: Option<&Slot>) -> Option<&Object>
 }
 
 fn version_of(there: Option<&Slot>) -> u64
-    ensures { result ≡ (unwrap_or (option_map (λ there. there.now) there) never_written).version }
+    ensures { result ≡ (unwrap_or (option_map (λ there. there.now) there.entry) never_written).version }
 {
     match there {
         Some(there) => there.version,

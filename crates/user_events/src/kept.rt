@@ -9,7 +9,7 @@ use cluster_objects::{
 };
 
 fn as_csv(object: Option<&Object>) -> Option<&CsvStatus>
-    ensures { option_map (λ csv. csv.now) result ≡ spec.as_csv (option_map (λ object. object.now) object) }
+    ensures { option_map (λ csv. csv.now) result ≡ spec.as_csv (option_map (λ object. object.now) object.entry) }
 {
     match &object?.status {
         Status::Csv(csv) => Some(csv),
@@ -18,7 +18,7 @@ fn as_csv(object: Option<&Object>) -> Option<&CsvStatus>
 }
 
 fn as_subscription(object: Option<&Object>) -> Option<&SubscriptionStatus>
-    ensures { option_map (λ found. found.now) result ≡ spec.as_subscription (option_map (λ object. object.now) object) }
+    ensures { option_map (λ found. found.now) result ≡ spec.as_subscription (option_map (λ object. object.now) object.entry) }
 {
     match &object?.status {
         Status::Subscription(found) => Some(found),
@@ -27,7 +27,7 @@ fn as_subscription(object: Option<&Object>) -> Option<&SubscriptionStatus>
 }
 
 fn as_deployment(object: Option<&Object>) -> Option<Readiness>
-    ensures { result ≡ spec.as_deployment (option_map (λ object. object.now) object) }
+    ensures { result ≡ spec.as_deployment (option_map (λ object. object.now) object.entry) }
 {
     match &object?.status {
         Status::Deployment(state) => Some(*state),
@@ -54,7 +54,7 @@ fn as_resolution(object: &Object) -> Option<&ResolutionStatus>
 }
 
 pub fn csv_at<'a>(key: &Key, object: Option<&'a Object>) -> Option<&'a CsvStatus>
-    ensures { option_map (λ csv. csv.now) result ≡ spec.csv_at key.now (option_map (λ object. object.now) object) }
+    ensures { option_map (λ csv. csv.now) result ≡ spec.csv_at key.now (option_map (λ object. object.now) object.entry) }
 {
     if is_csv_key(key) {
         as_csv(object)
@@ -64,7 +64,7 @@ pub fn csv_at<'a>(key: &Key, object: Option<&'a Object>) -> Option<&'a CsvStatus
 }
 
 pub fn subscription_at<'a>(key: &Key, object: Option<&'a Object>) -> Option<&'a SubscriptionStatus>
-    ensures { option_map (λ found. found.now) result ≡ spec.subscription_at key.now (option_map (λ object. object.now) object) }
+    ensures { option_map (λ found. found.now) result ≡ spec.subscription_at key.now (option_map (λ object. object.now) object.entry) }
 {
     if is_subscription_key(key) {
         as_subscription(object)
@@ -74,7 +74,7 @@ pub fn subscription_at<'a>(key: &Key, object: Option<&'a Object>) -> Option<&'a 
 }
 
 pub fn deployment_at(key: &Key, object: Option<&Object>) -> Option<Readiness>
-    ensures { result ≡ spec.deployment_at key.now (option_map (λ object. object.now) object) }
+    ensures { result ≡ spec.deployment_at key.now (option_map (λ object. object.now) object.entry) }
 {
     if is_deployment_key(key) {
         as_deployment(object)

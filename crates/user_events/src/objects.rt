@@ -12,7 +12,7 @@ use olm_base::Memory;
 use std::alloc::Global;
 
 fn removed(alloc: Global, old: Option<&Object>) -> Result<Option<Object>, Refusal>
-    ensures { Gives is_free (spec.removed (option_map (λ object. object.now) old)) result }
+    ensures { Gives is_free (spec.removed (option_map (λ object. object.now) old.entry)) result }
 {
     match old {
         Some(_) => Ok(None),
@@ -26,7 +26,7 @@ pub(crate) fn deleted(
     key: &Key,
     old: Option<&Object>,
 ) -> Result<Option<Object>, Refusal>
-    ensures { Gives is_free (spec.deleted key.now (option_map (λ object. object.now) old)) result }
+    ensures { Gives is_free (spec.deleted key.now (option_map (λ object. object.now) old.entry)) result }
 {
     if is_resolution_key(key) {
         return Err(refused(alloc, "forbidden Resolution"));
@@ -67,7 +67,7 @@ fn approved_plan(
     seen: u64,
     plan: Option<&PlanStatus>,
 ) -> Result<Option<Object>, Refusal>
-    ensures { Gives is_free (spec.approved_plan object.now seen (option_map (λ plan. plan.now) plan)) result }
+    ensures { Gives is_free (spec.approved_plan object.now seen (option_map (λ plan. plan.now) plan.entry)) result }
 {
     let Some(plan) = plan else {
         return Err(refused(alloc, "absent"));
@@ -85,7 +85,7 @@ pub(crate) fn approved(
     old: Option<&Object>,
     seen: u64,
 ) -> Result<Option<Object>, Refusal>
-    ensures { Gives is_free (spec.approved key.now (option_map (λ object. object.now) old) seen) result }
+    ensures { Gives is_free (spec.approved key.now (option_map (λ object. object.now) old.entry) seen) result }
 {
     match old {
         Some(object) => approved_plan(alloc, object, seen, plan_at(key, object)),
@@ -116,7 +116,7 @@ pub(crate) fn readied(
     old: Option<&Object>,
     seen: u64,
 ) -> Result<Option<Object>, Refusal>
-    ensures { Gives is_free (spec.readied state key.now (option_map (λ object. object.now) old) seen) result }
+    ensures { Gives is_free (spec.readied state key.now (option_map (λ object. object.now) old.entry) seen) result }
 {
     match old {
         Some(object) => made_ready(alloc, state, object, seen, deployment_at(key, Some(object))),

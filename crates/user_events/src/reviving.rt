@@ -57,7 +57,7 @@ fn tried_again(
     seen: u64,
     old: Option<&ResolutionStatus>,
 ) -> Result<Object, Memory>
-    ensures { IfOk result (λ new. new ≡ spec.tried_again budget object.now seen (option_map (λ found. found.now) old)) }
+    ensures { IfOk result (λ new. new ≡ spec.tried_again budget object.now seen (option_map (λ found. found.now) old.entry)) }
 {
     match old {
         Some(old) => with_status(object, status_again(budget, old)?, seen),
@@ -73,7 +73,7 @@ pub(crate) fn retried(
     old: Option<&Object>,
     seen: u64,
 ) -> Result<Object, Memory>
-    ensures { IfOk result (λ new. new ≡ spec.retried budget key.now (option_map (λ object. object.now) old) seen) }
+    ensures { IfOk result (λ new. new ≡ spec.retried budget key.now (option_map (λ object. object.now) old.entry) seen) }
 {
     match old {
         Some(object) => tried_again(alloc, budget, object, seen, resolution_at(key, object)),

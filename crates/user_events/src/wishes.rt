@@ -35,7 +35,7 @@ fn applied_whole(
     old: Option<&Object>,
     seen: u64,
 ) -> Result<Option<Object>, Refusal>
-    ensures { Gives is_free (spec.wished (Wish.Apply body status) key.now (option_map (λ object. object.now) old) seen) result }
+    ensures { Gives is_free (spec.wished (Wish.Apply body status) key.now (option_map (λ object. object.now) old.entry) seen) result }
 {
     match applied(body, &status, key, old, seen) {
         Ok(object) => Ok(Some(object)),
@@ -51,7 +51,7 @@ pub(crate) fn wished(
     old: Option<&Object>,
     seen: u64,
 ) -> Result<Option<Object>, Refusal>
-    ensures { Gives is_free (spec.wished wish key.now (option_map (λ object. object.now) old) seen) result }
+    ensures { Gives is_free (spec.wished wish key.now (option_map (λ object. object.now) old.entry) seen) result }
 {
     match wish {
         Wish::Apply { body, status } => applied_whole(body, status, key, old, seen),

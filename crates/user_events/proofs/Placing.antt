@@ -3,6 +3,7 @@ use Rattle.std.proofs.Common.{◌≡◌, Bool, true, false, cond, List, [], ◌�
 use Rattle.std.specs.Prelude.{codes}
 use Rattle.std.proofs.lemmas.Bool.{and_parts, or_right}
 use Rattle.serde_json.specs.Data.{Data, null, boolean, number, string, array, object}
+use Rattle.serde_json.specs.Find.{get_member}
 use Rattle.olm_base.specs.Names.{is_name, is_outside_name}
 use Rattle.olm_base.specs.Fields.{field, name_of}
 use Rattle.olm_base.specs.declared.fields.FieldKind.{FieldKind}
@@ -19,7 +20,10 @@ use Rattle.object_bodies.specs.Faults.{told, bad_field}
 use Rattle.object_bodies.specs.Fields.{fields_at}
 use Rattle.object_bodies.specs.Heads.{allowed_key, is_global, namespace_at, or_default, own_namespace, placed}
 use Rattle.object_bodies.specs.Statuses.{made_of}
+use Rattle.std.specs.Result.{IsOk}
+use Rattle.user_events.specs.Asked.{apply_wish}
 use Rattle.user_events.specs.Places.{is_place}
+use Rattle.user_events.specs.declared.wishes.Wish.{Wish}
 use Rattle.user_events.proofs.Chains.{then_ok, told_ok, below_ok, here_ok, ok_is}
 
 -- a name that was read is one
@@ -52,7 +56,7 @@ in_field (boolean b) key name e = absurd cc
 in_field (number n) key name e = absurd cc
 in_field (string s) key name e = absurd cc
 in_field (array ds) key name e = absurd cc
-in_field (object ms) key name e = opt_read _ name e
+in_field (object ms) key name e = opt_read (get_member key ms) name e
 
 default_is_place : (found : Option (List ℕ)) → ((name : List ℕ) → found ≡ Some name → is_name name ≡ true) → is_place (or_default found) ≡ true
 default_is_place None is = refl
@@ -85,3 +89,14 @@ object_in_place body found e =
     let value = then_ok (value_of body) user_value found e in
     let key = then_ok (allowed_key value.0) (λ key. told bad_field (user_parts key value.0)) found value.2 in
     parts_in_place key.0 value.0 found (told_ok bad_field (user_parts key.0 value.0) found key.2)
+
+pub wish_in_place : (body : List ℕ) (found : Key × Wish) → apply_wish body (user_object body) ≡ Ok found → is_place found.0.namespace ≡ true
+wish_in_place body found e = by_object (user_object body) refl e
+  where
+    by_object : (read : Result (Key × Status) ObjectFault) → user_object body ≡ read → apply_wish body read ≡ Ok found → is_place found.0.namespace ≡ true
+    by_object (Ok made) is e = subst (λ (f : Key × Wish). is_place f.0.namespace ≡ true) (ok_is _ _ e) (object_in_place body made is)
+    by_object (Err fault) is e = absurd cc
+
+pub wish_is_read : (body : List ℕ) (read : Result (Key × Status) ObjectFault) (found : Key × Wish) → apply_wish body read ≡ Ok found → IsOk read
+wish_is_read body (Ok made) found e = tt
+wish_is_read body (Err fault) found e = absurd cc

@@ -9,7 +9,7 @@ use Rattle.olm_base.specs.Fields.{field, name_of}
 use Rattle.olm_base.specs.declared.fields.FieldKind.{FieldKind}
 use Rattle.olm_base.specs.declared.fields.FieldKind.TheVariants.{BadName}
 use Rattle.json_fields.specs.declared.fault.Fault.{Fault}
-use Rattle.json_fields.specs.Faults.{and_then, here, below}
+use Rattle.json_fields.specs.Faults.{and_then, here, below, key_step}
 use Rattle.json_fields.specs.Values.{as_fields, as_opt_name, some_name, opt_name_at}
 use Rattle.cluster_objects.specs.Kinds.{status_of}
 use Rattle.cluster_objects.specs.declared.keys.Key.{Key}
@@ -25,6 +25,9 @@ use Rattle.user_events.specs.Asked.{apply_wish}
 use Rattle.user_events.specs.Places.{is_place}
 use Rattle.user_events.specs.declared.wishes.Wish.{Wish}
 use Rattle.user_events.proofs.Chains.{then_ok, told_ok, below_ok, here_ok, ok_is}
+
+pub named_place : (namespace : List ℕ) → is_name namespace ≡ true → is_place namespace ≡ true
+named_place namespace is = or_right _ _ is
 
 -- a name that was read is one
 name_read : (text name : List ℕ) → name_of text ≡ Ok name → is_name name ≡ true
@@ -66,7 +69,8 @@ own_is_place : (metadata : Data) (namespace : List ℕ) → own_namespace metada
 own_is_place metadata namespace e =
     let found = then_ok (opt_name_at (codes "namespace") metadata) (λ read. Ok (or_default read)) namespace e in
     let same : or_default found.0 ≡ namespace = let last = found.2 in cc in
-    let read = here_ok _ _ (below_ok _ _ _ found.1) in
+    let inside : Result (Option (List ℕ)) FieldKind = field as_opt_name metadata (codes "namespace") in
+    let read = here_ok inside found.0 (below_ok (key_step (codes "namespace")) (here inside) found.0 found.1) in
     subst (λ n. is_place n ≡ true) same (default_is_place found.0 (λ name is. in_field metadata (codes "namespace") name (read ∙ ap Ok is)))
 
 namespace_is_place : (kind : List ℕ) (value : Data) (namespace : List ℕ) → namespace_at kind value ≡ Ok namespace → is_place namespace ≡ true
@@ -75,7 +79,8 @@ namespace_is_place kind value namespace e = by_test (is_global kind) e
     by_test : (b : Bool) → cond {A = Result (List ℕ) Fault} b (Ok []) (fields_at own_namespace (codes "metadata") value) ≡ Ok namespace → is_place namespace ≡ true
     by_test true e = let same : [] ≡ namespace = cc in subst (λ n. is_place n ≡ true) same refl
     by_test false e =
-        let inside = then_ok (here (field as_fields value (codes "metadata"))) own_namespace namespace (below_ok _ _ _ e) in
+        let fields : Result Data FieldKind = field as_fields value (codes "metadata") in
+        let inside = then_ok (here fields) own_namespace namespace (below_ok (key_step (codes "metadata")) (and_then (here fields) own_namespace) namespace e) in
         own_is_place inside.0 namespace inside.2
 
 parts_in_place : (key : Key) (value : Data) (found : Key × Status) → user_parts key value ≡ Ok found → is_place found.0.namespace ≡ true
@@ -98,5 +103,5 @@ wish_in_place body found e = by_object (user_object body) refl e
     by_object (Err fault) is e = absurd cc
 
 pub wish_is_read : (body : List ℕ) (read : Result (Key × Status) ObjectFault) (found : Key × Wish) → apply_wish body read ≡ Ok found → IsOk read
-wish_is_read body (Ok made) found e = tt
+wish_is_read body (Ok made) found e = refl
 wish_is_read body (Err fault) found e = absurd cc

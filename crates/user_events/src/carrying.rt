@@ -1,5 +1,5 @@
 // One look at a store, and then one write.
-ghost use Rattle.std.specs.Prelude.{◌≡◌, true, not, codes, IfOk, Ok};
+ghost use Rattle.std.specs.Prelude.{◌≡◌, true, false, not, codes, IfOk, Ok};
 ghost use Rattle.std.specs.Option.{option_map, unwrap_or};
 ghost use Rattle.cluster_objects.specs.Keys.{same_text};
 ghost use Rattle.cluster_history.specs.History.{never_written, position, slot, slot_in};
@@ -8,7 +8,7 @@ ghost use Rattle.object_store.specs.Puts.{Agrees};
 ghost use Rattle.olm_base.specs.Outcome.{Gives};
 ghost use Rattle.olm_base.specs.Names.{is_name};
 ghost use Rattle.olm_io.specs.Outside.{HasCause};
-ghost use Rattle.user_events.specs.Answers.{Answers, store_failed, outage_failed};
+ghost use Rattle.user_events.specs.Answers.{Answers, store_failed, folder_failed, outage_failed};
 ghost use Rattle.user_events.specs.Asked as spec;
 ghost use Rattle.user_events.specs.Places.{is_place};
 ghost use Rattle.user_events.specs.Reasons.{is_free};
@@ -119,6 +119,7 @@ fn put<C: Cluster>(alloc: Global, write: Write, cluster: &mut C) -> UserAnswer
     ensures limit { C.limit cluster.new ≡ C.limit cluster.old }
     ensures cause { HasCause (C.faults cluster.old) (C.faults cluster.new) (store_failed result ≡ true) }
     ensures ready { C.ready cluster.new ≡ not (store_failed result) }
+    ensures folder { folder_failed result ≡ false }
 {
     let Ok(key) = write.key.clone() else {
         discard_write(write);
@@ -148,6 +149,7 @@ fn put_asked<C: Cluster>(
     ensures limit { C.limit cluster.new ≡ C.limit cluster.old }
     ensures cause { HasCause (C.faults cluster.old) (C.faults cluster.new) (store_failed result ≡ true) }
     ensures ready { C.ready cluster.new ≡ not (store_failed result) }
+    ensures folder { folder_failed result ≡ false }
 {
     match asked(alloc, key, wish, view) {
         Ok(write) => put(alloc, write, cluster),
@@ -169,6 +171,7 @@ pub(crate) fn carry_out<C: Cluster>(
     ensures limit { C.limit cluster.new ≡ C.limit cluster.old }
     ensures cause { HasCause (C.faults cluster.old) (C.faults cluster.new) (store_failed result ≡ true) }
     ensures ready { C.ready cluster.new ≡ not (store_failed result) }
+    ensures folder { folder_failed result ≡ false }
 {
     match look(alloc, &key, cluster) {
         Ok(view) => put_asked(alloc, key, wish, &view, cluster),

@@ -1,11 +1,11 @@
 // The events of a user that need no folder.
-ghost use Rattle.std.specs.Prelude.{◌≡◌, true, not, IfOk};
+ghost use Rattle.std.specs.Prelude.{◌≡◌, true, false, not, IfOk};
 ghost use Rattle.std.specs.Result.{IsOk};
 ghost use Rattle.olm_base.specs.Names.{is_name};
 ghost use Rattle.olm_base.specs.Outcome.{Gives};
 ghost use Rattle.olm_io.specs.Outside.{HasCause};
 ghost use Rattle.object_bodies.specs.Bodies.{user_object};
-ghost use Rattle.user_events.specs.Answers.{Answers, store_failed};
+ghost use Rattle.user_events.specs.Answers.{Answers, store_failed, folder_failed};
 ghost use Rattle.user_events.specs.Asked as spec;
 ghost use Rattle.user_events.specs.Places as places;
 ghost use Rattle.user_events.specs.Reasons.{is_free};
@@ -39,6 +39,7 @@ fn apply_wish(alloc: Global, body: &Bytes) -> Result<(Key, Wish), Refusal>
 }
 
 // A key in a namespace.
+#[tactic(auto, using(crate::proofs::Placing::named_place))]
 fn key_in(
     alloc: Global,
     group: &str,
@@ -47,7 +48,8 @@ fn key_in(
     name: &Name,
 ) -> Result<Key, Memory>
     requires { is_name kind.now ≡ true }
-    ensures { IfOk result (λ key. key ≡ record { group = group.now; kind = kind.now; namespace = namespace.now; name = name.now }) }
+    ensures key { IfOk result (λ key. key ≡ record { group = group.now; kind = kind.now; namespace = namespace.now; name = name.now }) }
+    ensures place { IfOk result (λ key. places.is_place namespace.now ≡ true) }
 {
     Ok(Key {
         group: Text::from_str(alloc, group)?,
@@ -67,6 +69,7 @@ pub fn apply<C: Cluster>(alloc: Global, body: &Bytes, cluster: &mut C) -> UserAn
     ensures limit { C.limit cluster.new ≡ C.limit cluster.old }
     ensures cause { HasCause (C.faults cluster.old) (C.faults cluster.new) (store_failed result ≡ true) }
     ensures ready { C.ready cluster.new ≡ not (store_failed result) }
+    ensures folder { folder_failed result ≡ false }
 {
     match apply_wish(alloc, body) {
         Ok((key, wish)) => carry_out(alloc, key, wish, cluster),
@@ -107,6 +110,7 @@ pub fn delete<C: Cluster>(
     ensures limit { C.limit cluster.new ≡ C.limit cluster.old }
     ensures cause { HasCause (C.faults cluster.old) (C.faults cluster.new) (store_failed result ≡ true) }
     ensures ready { C.ready cluster.new ≡ not (store_failed result) }
+    ensures folder { folder_failed result ≡ false }
 {
     match delete_key(alloc, group, kind, namespace, name) {
         Ok(key) => carry_out(alloc, key, Wish::Delete, cluster),
@@ -126,6 +130,7 @@ pub fn approve<C: Cluster>(
     ensures limit { C.limit cluster.new ≡ C.limit cluster.old }
     ensures cause { HasCause (C.faults cluster.old) (C.faults cluster.new) (store_failed result ≡ true) }
     ensures ready { C.ready cluster.new ≡ not (store_failed result) }
+    ensures folder { folder_failed result ≡ false }
 {
     match key_in(
         alloc,
@@ -152,6 +157,7 @@ pub fn ready<C: Cluster>(
     ensures limit { C.limit cluster.new ≡ C.limit cluster.old }
     ensures cause { HasCause (C.faults cluster.old) (C.faults cluster.new) (store_failed result ≡ true) }
     ensures ready { C.ready cluster.new ≡ not (store_failed result) }
+    ensures folder { folder_failed result ≡ false }
 {
     match key_in(alloc, "apps", b"Deployment", namespace, name) {
         Ok(key) => carry_out(alloc, key, Wish::Ready { state }, cluster),
@@ -160,7 +166,8 @@ pub fn ready<C: Cluster>(
 }
 
 fn resolution_key(alloc: Global, namespace: &Name) -> Result<Key, Memory>
-    ensures { IfOk result (λ key. key ≡ places.resolution_key namespace.now) }
+    ensures key { IfOk result (λ key. key ≡ places.resolution_key namespace.now) }
+    ensures place { IfOk result (λ key. places.is_place namespace.now ≡ true) }
 {
     let name = given_name(alloc, b"current")?;
     key_in(alloc, "olmctl.local", b"Resolution", namespace, &name)
@@ -178,6 +185,7 @@ pub fn retry<C: Cluster>(
     ensures limit { C.limit cluster.new ≡ C.limit cluster.old }
     ensures cause { HasCause (C.faults cluster.old) (C.faults cluster.new) (store_failed result ≡ true) }
     ensures ready { C.ready cluster.new ≡ not (store_failed result) }
+    ensures folder { folder_failed result ≡ false }
 {
     match resolution_key(alloc, namespace) {
         Ok(key) => carry_out(alloc, key, Wish::Retry { budget }, cluster),

@@ -1,6 +1,7 @@
 // Why an event of a user writes nothing.
-ghost use Rattle.std.specs.Prelude.{◌≡◌, ◌++◌, IfOk, IfErr};
+ghost use Rattle.std.specs.Prelude.{◌≡◌, ◌++◌, true, IfOk, IfErr};
 ghost use Rattle.std.specs.Fmt.{decimal};
+ghost use Rattle.olm_base.specs.Names.{is_name};
 ghost use Rattle.olm_base.specs.Outcome.{Ends};
 ghost use Rattle.user_events.specs.Reasons as spec;
 
@@ -41,7 +42,8 @@ impl From<AllocError> for Refusal {
 
 /// A name is a text.
 pub(crate) fn as_text(name: &Name) -> &str
-    ensures { result.now ≡ name.now }
+    ensures text { result.now ≡ name.now }
+    ensures name { is_name name.now ≡ true }
 {
     match str::from_utf8(name.as_bytes()) {
         Ok(text) => text,

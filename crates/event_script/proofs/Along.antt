@@ -5,7 +5,7 @@ use Rattle.catalog_stream.specs.Depth.{extent}
 use Rattle.catalog_stream.specs.declared.scan.Extent.{Extent}
 use Rattle.catalog_stream.specs.declared.scan.Extent.TheVariants.{Ends, Deep, Open}
 use Rattle.catalog_stream.specs.Reading.{Reading}
-use Rattle.catalog_stream.specs.Stream.{Stream, BlobView, before, blobs, blobs_from, object_or_syntax, by_extent, blob_at, next, start_after}
+use Rattle.catalog_stream.specs.Stream.{Stream, BlobView, before, blobs_from, object_or_syntax, by_extent, blob_at, next, start_after}
 use Rattle.catalog_stream.specs.declared.blobs.StreamFault.{StreamFault}
 use Rattle.catalog_stream.specs.declared.blobs.StreamFault.TheVariants.{NotObject}
 use Rattle.json_fields.specs.Faults.{and_then}

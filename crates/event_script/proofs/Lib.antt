@@ -1,2 +1,4 @@
 pub mod Faults
 pub mod Along
+pub mod Ranges
+pub mod Order

@@ -1,3 +1,5 @@
 pub mod Numbers
 pub mod Events
+pub mod Ranges
 pub mod Script
+pub mod Order

@@ -5,9 +5,14 @@
 #![tactic(auto)]
 
 mod events;
+mod laws;
 mod numbers;
 mod paths;
 mod reading;
 
 pub use events::Event;
+pub use laws::script_law;
 pub use reading::{EventFault, read_events};
+
+#[cfg(test)]
+mod tests;

@@ -1,5 +1,5 @@
 // The blobs of a text, as events.
-ghost use Rattle.std.specs.Prelude.{◌≡◌, ◌≤◌, ◌^◌, true, length, Result};
+ghost use Rattle.std.specs.Prelude.{◌≡◌, ◌≤◌, ◌^◌, true, length, All, Result, IfOk};
 ghost use Rattle.serde_json.specs.View.{view};
 ghost use Rattle.olm_base.specs.Outcome.{Ends, Gives};
 ghost use Rattle.olm_base.specs.Fields as field;
@@ -7,6 +7,7 @@ ghost use Rattle.json_fields.specs.Faults as faults;
 ghost use Rattle.catalog_stream.specs.Stream as stream;
 ghost use Rattle.json_fields.specs.declared.fault.Fault.{Fault};
 ghost use Rattle.event_script.specs.declared.events.Event.{Event};
+ghost use Rattle.event_script.specs.Ranges.{IsInRange};
 ghost use Rattle.event_script.specs.Script as spec;
 
 use crate::events::{
@@ -131,7 +132,8 @@ fn blob_bytes<'t>(text: &'t [u8], blob: &Blob) -> &'t [u8]
 /// All events of a text, in the order of its blobs, or the first fault in the order of the text.
 pub fn read_events(alloc: Global, text: &[u8]) -> Result<Many<Event>, EventFault>
     requires { length text.now ≤ 2 ^ 31 }
-    ensures { Gives spec.is_free (spec.events_of text.now) result }
+    ensures answer { Gives spec.is_free (spec.events_of text.now) result }
+    ensures ranges { IfOk result (λ events. All IsInRange events) }
 {
     let mut blobs = Blobs::new(text);
     let mut found = Vec::new(alloc);

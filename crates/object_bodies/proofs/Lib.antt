@@ -1,1 +1,4 @@
 pub mod Ascii
+pub mod Reading
+pub mod Made
+pub mod Whole

@@ -3,3 +3,4 @@ pub mod Fields
 pub mod Heads
 pub mod Statuses
 pub mod Bodies
+pub mod Laws

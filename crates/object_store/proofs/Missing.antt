@@ -1,14 +1,14 @@
 -- Which writes a store has after a put.
-use Rattle.std.proofs.Common.{◌≡◌, ◌≢◌, ◌≤◌, ◌++◌, ◌∷◌, ◌==◌, ◌&&◌, [], ℕ, List, Bool, true, false, cond, not, Option, Some, None, inl, inr, refl, sym, ap, ◌∙◌, append-nil, append_assoc, nat_lt, arith}
+use Rattle.std.proofs.Common.{◌≡◌, ◌++◌, ◌∷◌, ◌&&◌, [], ℕ, List, Bool, true, false, cond, not, Some, None, inl, inr, refl, sym, ap, ◌∙◌, append-nil, append_assoc, arith}
 use Rattle.std.proofs.lemmas.Bool.{eq-eqb, ne_eqb}
-use Rattle.cluster_history.specs.History.{History, Start, After, empty, after_all, position, slot}
+use Rattle.cluster_history.specs.History.{History, Start, After, empty, after_all}
 use Rattle.cluster_objects.specs.declared.objects.Write.{Write}
 use Rattle.olm_io.specs.Outside.{HasCause}
 use Rattle.object_store.specs.declared.cluster.PutAnswer.{PutAnswer}
 use Rattle.object_store.specs.declared.cluster.PutAnswer.TheVariants as put
 use Rattle.object_store.specs.Puts.{Puts, has_room, put_failed}
 use Rattle.object_store.specs.declared.miss.Miss.{Miss}
-use Rattle.object_store.specs.Misses.{MemClusterState, CallsPut, Stores, answered, history_of, is_lost, missed, next_miss, takes, written}
+use Rattle.object_store.specs.Misses.{MemClusterState, CallsPut, Stores, answered, history_of, is_lost, missed, next_miss, written}
 
 abbrev writes_of : History → List Write
 writes_of (Start base) = []

@@ -1,3 +1,4 @@
+pub mod Appends
 pub mod Misses
 pub mod Puts
 pub mod Seen

@@ -1,6 +1,6 @@
 // What every store of a history offers.
 ghost use Rattle.std.specs.Prelude.{◌≡◌, Bool, Option, true, not, ℕ, is_ok};
-ghost use Rattle.cluster_history.specs.History.{History};
+ghost use Rattle.cluster_history.specs.History.{History, IsHistory};
 ghost use Rattle.cluster_objects.specs.declared.objects.Write.{Write};
 ghost use Rattle.olm_io.specs.Outside.{HasCause};
 ghost use Rattle.object_store.specs.Puts.{Puts, Snapshots, Reopens, has_room, put_failed, fault_failed};
@@ -33,8 +33,12 @@ pub enum ClusterFault {
     Memory,
 }
 
-/// A store of one history.
+/// A store of one history. Whether a reopening finds damage, and that it leaves the history as it is, holds where the
+/// store tells what its file holds.
 pub trait Cluster {
+    /// The store tells what its file holds.
+    ghost tells: { Self → Bool };
+
     ghost history: { Self → History };
 
     /// The most writes that it takes.
@@ -57,6 +61,7 @@ pub trait Cluster {
         requires { ready self.old ≡ true }
         ensures view { Snapshots (history self.old) namespace.now result }
         ensures history { history self.new ≡ history self.old }
+        ensures tells { tells self.new ≡ tells self.old }
         ensures limit { limit self.new ≡ limit self.old }
         ensures cause { HasCause (faults self.old) (faults self.new) (fault_failed result ≡ true) }
         ensures ready { ready self.new ≡ not (fault_failed result) };
@@ -65,14 +70,17 @@ pub trait Cluster {
     fn put(&mut self, alloc: Global, write: Write) -> PutAnswer
         requires { ready self.old ≡ true }
         ensures puts { Puts (has_room (fits (history self.old) write) (limit self.old) (history self.old)) (history self.old) write (history self.new) result }
+        ensures tells { tells self.new ≡ tells self.old }
         ensures limit { limit self.new ≡ limit self.old }
         ensures cause { HasCause (faults self.old) (faults self.new) (put_failed result ≡ true) }
         ensures ready { ready self.new ≡ not (put_failed result) };
 
-    /// Opens the store again after a fault.
+    /// Opens the store again after a fault. A history stays one, also where the store doesn't tell what its file holds.
     fn reopen(&mut self, alloc: Global) -> Result<(), ClusterFault>
-        ensures damage { Reopens (damage self.old) result }
-        ensures history { history self.new ≡ history self.old }
+        ensures damage { tells self.old ≡ true → Reopens (damage self.old) result }
+        ensures history { tells self.old ≡ true → history self.new ≡ history self.old }
+        ensures still { IsHistory (history self.old) → IsHistory (history self.new) }
+        ensures tells { tells self.new ≡ tells self.old }
         ensures limit { limit self.new ≡ limit self.old }
         ensures cause { HasCause (faults self.old) (faults self.new) (fault_failed result ≡ true) }
         ensures ready { ready self.new ≡ is_ok result };
@@ -80,6 +88,8 @@ pub trait Cluster {
 
 /// A borrowed store passes each call on.
 impl<C: Cluster> Cluster for &mut C {
+    ghost tells = { λ c. C.tells c.now };
+
     ghost history = { λ c. C.history c.now };
 
     ghost limit = { λ c. C.limit c.now };

@@ -14,7 +14,7 @@ pub use laws::{puts_keep_histories, views_show};
 pub use mem::MemCluster;
 pub use miss::Miss;
 pub use shared::{Shared, View};
-pub use sure::SureCluster;
+pub use sure::{Appended, SureCluster};
 
 /// The most writes that a store takes.
 pub const WRITE_LIMIT: u64 = 16_777_216;

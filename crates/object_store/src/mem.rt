@@ -183,6 +183,8 @@ impl MemCluster {
 impl Cluster for MemCluster {
     ghost use Rattle.object_store.specs.Misses.{history_of};
 
+    ghost tells = { λ s. true };
+
     ghost history = { λ s. history_of s.writes };
 
     ghost limit = { λ s. s.limit };

@@ -1,15 +1,19 @@
 // A history in memory that never fails.
 ghost use Rattle.std.specs.Prelude.{◌≡◌, ◌≤◌, ◌+◌, ◌∷◌, ◌++◌, ◌||◌, [], IfOk, OnOk, OnErr, length};
 ghost use Rattle.std.specs.List.{filter};
-ghost use Rattle.cluster_objects.specs.Keys.{same_text};
+ghost use Rattle.std.specs.BTreeMap.{insert_entry};
+ghost use Rattle.cluster_objects.specs.Keys.{same_text, key_cmp};
 ghost use Rattle.cluster_objects.specs.Stamps.{stamps_of};
-ghost use Rattle.cluster_history.specs.History.{Start, empty, after_all, slot_in, state};
+ghost use Rattle.cluster_history.specs.History.{Start, Slots, IsInOrder, empty, after_all, slot, slot_in, state};
+ghost use Rattle.cluster_history.specs.declared.slots.Slot.{Slot};
+ghost use Rattle.object_store.specs.Appends.{IsUndoneBy, TakesBack};
+ghost use Rattle.object_store.specs.Seen.{slot_seen};
 ghost use Rattle.cluster_history.specs.Views.{is_visible, is_global};
 
 use crate::{Cluster, ClusterFault, PutAnswer, Shared, View, WRITE_LIMIT};
 use cluster_history::Slot;
 use cluster_objects::{Key, Object, Stamp, Write, Writer};
-use olm_base::{Many, Name};
+use olm_base::{Many, Memory, Name};
 use std::alloc::{AllocError, Global};
 use std::collections::BTreeMap;
 use std::marker::Model;
@@ -51,6 +55,15 @@ impl Model for SureCluster {
     ghost view = { λ s. (s.limit, s.writes.items) };
 
     ghost invariant = { λ s. s.slots.entries ≡ state (after_all (Start empty) s.writes.items) };
+}
+
+/// What `append` did.
+#[derive(Debug, Drop)]
+pub struct Appended {
+    /// The position of the write.
+    pub version: u64,
+    /// What stood at the write's key before it.
+    pub before: Option<Shared>,
 }
 
 fn is_same(a: &[u8], b: &[u8]) -> bool
@@ -172,9 +185,10 @@ fn append(
     writes: &mut Vec<Kept>,
     slots: &mut BTreeMap<Key, Shared>,
     write: Write,
-) -> Result<u64, AllocError>
+) -> Result<Appended, AllocError>
     requires { slots.old.entries ≡ state (after_all (Start empty) writes.old.items) }
-    ensures done { IfOk result (λ version. (writes.new.items ≡ writes.old.items ++ write ∷ []) × (version ≡ length writes.old.items + 1)) }
+    ensures done { IfOk result (λ appended. (writes.new.items ≡ writes.old.items ++ write ∷ []) × (appended.version ≡ length writes.old.items + 1)) }
+    ensures before { IfOk result (λ appended. appended.before ≡ slot_seen slots.old.entries write.key) }
     ensures err { OnErr result (writes.new.items ≡ writes.old.items) }
     ensures state { slots.new.entries ≡ state (after_all (Start empty) writes.new.items) }
 {
@@ -194,10 +208,30 @@ fn append(
     };
     writes.push(kept)?;
     match slots.insert(key, slot) {
-        Ok(_) => Ok(version),
+        Ok(before) => Ok(Appended { version, before }),
         Err(_) => {
             let _ = writes.pop();
             Err(AllocError)
+        }
+    }
+}
+
+fn version_of(appended: Appended) -> u64
+    ensures { result ≡ appended.version }
+{
+    appended.version
+}
+
+// Gives a key what stood there before a slot was made at it.
+fn put_back(slots: &mut BTreeMap<Key, Shared>, key: Key, before: Option<Shared>)
+    ensures { (es : Slots) (made : Slot) → IsInOrder es → slots.old.entries ≡ insert_entry key_cmp es key made → before ≡ slot_seen es key → slots.new.entries ≡ es }
+{
+    match before {
+        Some(slot) => {
+            let _ = slots.insert(key, slot);
+        }
+        None => {
+            let _ = slots.remove(&key);
         }
     }
 }
@@ -215,11 +249,48 @@ impl SureCluster {
             slots: BTreeMap::new(alloc),
         }
     }
+
+    /// How many writes it has.
+    pub fn length(&self) -> u64
+        ensures { result ≡ length self.now.1 }
+    {
+        self.writes.as_slice().len() as u64
+    }
+
+    /// The version of a key, 0 where it was never written.
+    pub fn version(&self, key: &Key) -> u64
+        ensures { result ≡ (slot (after_all (Start empty) self.now.1) key.now).version }
+    {
+        version_at(&self.slots, key)
+    }
+
+    /// Adds a write, whatever version it expects and whatever the limit is.
+    pub fn append(&mut self, alloc: Global, write: Write) -> Result<Appended, Memory>
+        ensures done { OnOk result (self.new ≡ (self.old.0, self.old.1 ++ write ∷ [])) }
+        ensures version { IfOk result (λ appended. appended.version ≡ length self.old.1 + 1) }
+        ensures before { IfOk result (λ appended. appended.before ≡ slot_seen (state (after_all (Start empty) self.old.1)) write.key) }
+        ensures err { OnErr result (self.new ≡ self.old) }
+    {
+        Ok(append(alloc, &mut self.writes, &mut self.slots, write)?)
+    }
+
+    /// Takes the last write back, with what `append` answered for it. It takes no memory.
+    pub fn take_back(&mut self, appended: Appended)
+        requires { IsUndoneBy appended.before self.old.1 }
+        ensures limit { self.new.0 ≡ self.old.0 }
+        ensures writes { TakesBack self.old.1 self.new.1 }
+    {
+        if let Some(kept) = self.writes.pop() {
+            put_back(&mut self.slots, kept.key, appended.before);
+        }
+    }
 }
 
 impl Cluster for SureCluster {
     ghost use Rattle.std.specs.Prelude.{true, None};
     ghost use Rattle.cluster_history.specs.History.{Start, empty, after_all};
+
+    ghost tells = { λ s. true };
 
     ghost history = { λ s. after_all (Start empty) s.1 };
 
@@ -259,7 +330,9 @@ impl Cluster for SureCluster {
             PutAnswer::Full
         } else {
             match append(alloc, &mut self.writes, &mut self.slots, write) {
-                Ok(version) => PutAnswer::Done { version },
+                Ok(appended) => PutAnswer::Done {
+                    version: version_of(appended),
+                },
                 Err(_) => PutAnswer::Memory,
             }
         }

@@ -195,3 +195,31 @@ fn a_view_stays_as_it_was(rt: HostRuntime) -> Result<(), Fail> {
     assert!(rt; told_now(alloc, &mut cluster, b"a")? == (2, false, 1));
     Ok(())
 }
+
+// Appends a write and takes it back. The position that the write had.
+fn append_and_take_back(
+    alloc: Global,
+    cluster: &mut SureCluster,
+    write: Write,
+) -> Result<u64, Fail> {
+    let appended = cluster.append(alloc, write)?;
+    let version = appended.version;
+    cluster.take_back(appended);
+    Ok(version)
+}
+
+#[test]
+fn what_is_taken_back_leaves_nothing(rt: HostRuntime) -> Result<(), Fail> {
+    let alloc = rt.alloc();
+    let mut cluster = SureCluster::new(alloc, 1);
+    put(alloc, &mut cluster, 0, ("default", b"a"), Some(0))?;
+    for name in [b"a", b"b"] {
+        let over = write(alloc, 7, "default", name, Some(1))?;
+        assert_eq!(rt; append_and_take_back(alloc, &mut cluster, over)?, 2);
+    }
+    assert!(rt; cluster.length() == 1);
+    assert!(rt; cluster.version(&key(alloc, "default", b"a")?) == 1);
+    assert!(rt; cluster.version(&key(alloc, "default", b"b")?) == 0);
+    assert!(rt; told_now(alloc, &mut cluster, b"a")? == (1, true, 1));
+    Ok(())
+}

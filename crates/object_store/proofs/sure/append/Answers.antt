@@ -13,3 +13,7 @@ returns-in-Ok-clause-state c =
     append_state c.args.writes.now.items kept c.args.slots.now.entries c.insert.new.self.entries c.args.write.key c.args.write.object c.in_ok-slot.slot (length c.as_slice.result.now)
     c.requires c.in_ok-clone.ensures.cases (ap (λ (s : Slot). s.object) c.in_ok-clone-2.ensures.cases) (ap length c.as_slice.ensures.value) c.in_ok-slot.ensures c.in-Ok.ensures.entries
     ∙ sym (ap (λ (xs : List Write). state (after_all (Start empty) xs)) c.in_ok-push.ensures.items)
+
+pub returns-in-Ok-clause-before : goal.returns-in-Ok-clause-before
+unfolding key_cmp
+returns-in-Ok-clause-before c = c.in-Ok.ensures.old

@@ -118,6 +118,19 @@ pub fn delete<C: Cluster>(
     }
 }
 
+fn plan_key(alloc: Global, namespace: &Name, name: &Name) -> Result<Key, Memory>
+    ensures key { IfOk result (λ key. key ≡ places.plan_key namespace.now name.now) }
+    ensures place { IfOk result (λ key. places.is_place namespace.now ≡ true) }
+{
+    key_in(
+        alloc,
+        "operators.coreos.com",
+        b"InstallPlan",
+        namespace,
+        name,
+    )
+}
+
 /// Approves a plan.
 pub fn approve<C: Cluster>(
     alloc: Global,
@@ -132,16 +145,17 @@ pub fn approve<C: Cluster>(
     ensures ready { C.ready cluster.new ≡ not (store_failed result) }
     ensures folder { folder_failed result ≡ false }
 {
-    match key_in(
-        alloc,
-        "operators.coreos.com",
-        b"InstallPlan",
-        namespace,
-        name,
-    ) {
+    match plan_key(alloc, namespace, name) {
         Ok(key) => carry_out(alloc, key, Wish::Approve, cluster),
         Err(Memory) => UserAnswer::Memory,
     }
+}
+
+fn deployment_key(alloc: Global, namespace: &Name, name: &Name) -> Result<Key, Memory>
+    ensures key { IfOk result (λ key. key ≡ places.deployment_key namespace.now name.now) }
+    ensures place { IfOk result (λ key. places.is_place namespace.now ≡ true) }
+{
+    key_in(alloc, "apps", b"Deployment", namespace, name)
 }
 
 /// Says how far a deployment is.
@@ -159,7 +173,7 @@ pub fn ready<C: Cluster>(
     ensures ready { C.ready cluster.new ≡ not (store_failed result) }
     ensures folder { folder_failed result ≡ false }
 {
-    match key_in(alloc, "apps", b"Deployment", namespace, name) {
+    match deployment_key(alloc, namespace, name) {
         Ok(key) => carry_out(alloc, key, Wish::Ready { state }, cluster),
         Err(Memory) => UserAnswer::Memory,
     }

@@ -16,3 +16,6 @@ mod wishes;
 
 pub use answers::UserAnswer;
 pub use events::{apply, approve, delete, ready, retry};
+
+#[cfg(test)]
+mod tests;

@@ -1,0 +1,5 @@
+pub mod Answers
+pub mod Asked
+pub mod Places
+pub mod Reasons
+pub mod Wishes

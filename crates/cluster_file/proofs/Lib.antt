@@ -1,0 +1,4 @@
+pub mod Gates
+pub mod RecordForms
+pub mod Standing
+pub mod Walking

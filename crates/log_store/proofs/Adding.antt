@@ -99,7 +99,7 @@ staged old new after ws w holds is durable =
 pub still_holds : (content : List ℕ) (pending : Pending) (ws : List Write) (w : Write) → IsStaged content pending ws w → HoldsWrites content ws
 still_holds content pending ws w s = record { gate = s.gate; rest = piece w 0 ++ s.rest; closed = s.closed; whole = s.whole }
 
-not_one : 0 ≢ 1
+not_one : ◌≢◌ {A = ℕ} 0 1
 not_one e = omega (arith, e)
 
 -- whatever byte stands at the gate

@@ -1,4 +1,5 @@
 pub mod Adding
+pub mod Beginning
 pub mod Causes
 pub mod Putting
 pub mod Reading

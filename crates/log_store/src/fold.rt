@@ -58,14 +58,16 @@ fn turn<'a>(
     ensures turns { (bound : ℕ) → Turns bound place store.old.1 bytes.now store.new.1 result }
     ensures limit { store.new.0 ≡ store.old.0 }
 {
-    match bytes {
-        [] => Err(ClusterFault::Damaged { at: place }),
-        [1, behind @ ..] => match add_next(alloc, store, behind) {
-            Ok(Some(rest)) => Ok(Some(rest)),
-            Ok(None) => Err(ClusterFault::Damaged { at: place }),
-            Err(Memory) => Err(ClusterFault::Memory),
-        },
-        _ => Ok(None),
+    let Some((gate, behind)) = bytes.split_first() else {
+        return Err(ClusterFault::Damaged { at: place });
+    };
+    if *gate != 1 {
+        return Ok(None);
+    }
+    match add_next(alloc, store, behind) {
+        Ok(Some(rest)) => Ok(Some(rest)),
+        Ok(None) => Err(ClusterFault::Damaged { at: place }),
+        Err(Memory) => Err(ClusterFault::Memory),
     }
 }
 
@@ -94,10 +96,17 @@ fn fold_records(
     })
 }
 
+fn is_same(a: &[u8], b: &[u8]) -> bool
+    ensures { result ≡ same_text a.now b.now }
+{
+    a == b
+}
+
+#[tactic(auto, unfolding(cluster_file::specs::Files::header))]
 fn is_header(bytes: &[u8]) -> bool
     ensures { result ≡ same_text bytes.now header }
 {
-    bytes == b"OLMLOG01".as_slice()
+    is_same(bytes, b"OLMLOG01")
 }
 
 // Adds the writes of a file's bytes to an empty store. The place of the last gate.

@@ -1,5 +1,5 @@
 -- What the byte of a gate decides.
-use Rattle.std.proofs.Common.{◌≡◌, ◌≢◌, ◌+◌, ℕ, List, [], ◌∷◌, ◌++◌, length, take, drop, refl, sym, ap, ◌∙◌, arith, append_assoc, length-append, take-append-drop}
+use Rattle.std.proofs.Common.{◌≡◌, ◌≢◌, ◌<◌, ◌+◌, ℕ, List, [], ◌∷◌, ◌++◌, length, take, drop, refl, sym, ap, ◌∙◌, arith, append_assoc, length-append, take-append-drop}
 use Rattle.std.proofs.lemmas.List.{take_at, append-nil}
 use Rattle.cluster_objects.specs.declared.objects.Write.{Write}
 use Rattle.cluster_file.specs.Files.{header, record_form}
@@ -10,13 +10,20 @@ use Rattle.cluster_file.proofs.Standing.{length-header}
 pub empty_holds : HoldsWrites empty_file []
 empty_holds = record { gate = 0; rest = []; closed = λ e. absurd (omega (arith, e)); whole = ap (λ (l : List ℕ). l ++ 0 ∷ []) (sym (append-nil header) ∙ ap (λ (l : List ℕ). header ++ l) (sym records-none)) }
 
+-- the last gate's place is the length of what stands before it
+pub front-length : (ws : List Write) → length (header ++ records ws) ≡ place_after ws
+unfolding place_after
+front-length ws = omega (arith, length-append header (records ws), length-header)
+
+pub held_within : (bytes : List ℕ) (ws : List Write) → HoldsWrites bytes ws → place_after ws < length bytes
+held_within bytes ws holds = omega (arith, ap length holds.whole, length-append (header ++ records ws) (holds.gate ∷ holds.rest), front-length ws)
+
 -- the bytes up to the gate, and the gate
 up_to : (ws : List Write) (gate : ℕ) (rest : List ℕ) → header ++ records ws ++ gate ∷ rest ≡ (header ++ records ws ++ gate ∷ []) ++ rest
 up_to ws gate rest = sym (append_assoc (header ++ records ws) (gate ∷ []) rest)
 
 up_to-length : (ws : List Write) (gate : ℕ) → length (header ++ records ws ++ gate ∷ []) ≡ place_after ws + 1
-unfolding place_after
-up_to-length ws gate = omega (arith, length-append (header ++ records ws) (gate ∷ []), length-append header (records ws), length-header)
+up_to-length ws gate = omega (arith, length-append (header ++ records ws) (gate ∷ []), front-length ws)
 
 pub held_behind : (bytes other : List ℕ) (ws : List Write) → HoldsWrites bytes ws → take (place_after ws + 1) other ≡ take (place_after ws + 1) bytes → HoldsWrites other ws
 held_behind bytes other ws holds same =

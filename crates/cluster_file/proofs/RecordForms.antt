@@ -1,11 +1,11 @@
 -- Records have one spelling, and what is written in front of a next gate is read there.
-use Rattle.std.proofs.Common.{◌≡◌, ◌<◌, ◌^◌, Bool, true, false, cond, ℕ, List, [], ◌∷◌, ◌++◌, length, get_or, inl, inr, Option, Some, None, refl, sym, ap, ◌∙◌, subst, arith, append_assoc}
+use Rattle.std.proofs.Common.{◌≡◌, ◌<◌, ◌^◌, true, cond, ℕ, List, [], ◌∷◌, ◌++◌, length, inl, inr, Option, Some, None, refl, sym, ap, ◌∙◌, subst, arith, append_assoc}
 use Rattle.std.specs.Int.{w64, to_be_bytes}
 use Rattle.std.proofs.lemmas.Bool.{and_parts, and_from, cases_lt, eq-eqb, eqb-true, lt-ltb}
 use Rattle.std.proofs.lemmas.List.{get_or_append_left, get_or_past}
 use Rattle.cluster_objects.specs.declared.objects.Write.{Write}
 use Rattle.cluster_history.specs.History.{History, slot}
-use Rattle.payloads.specs.Form.{Form, ◌>>=◌, Spells, whole, number_form, bytes_form}
+use Rattle.payloads.specs.Form.{◌>>=◌, Spells, whole, number_form, bytes_form}
 use Rattle.payloads.specs.Laws.{AreBytes, IsForm}
 use Rattle.payloads.specs.Objects.{write_form}
 use Rattle.payloads.proofs.Combinators.{AreBytes-rest, bind_some, bind_is, parts_of, let_through}

@@ -6,12 +6,12 @@ use Rattle.std.proofs.lemmas.Bool.{and_parts, and_from, cases_lt, eq-eqb, eqb-tr
 use Rattle.std.proofs.lemmas.List.{take_at, drop_at}
 use Rattle.cluster_objects.specs.Keys.{same_text}
 use Rattle.cluster_objects.specs.declared.objects.Write.{Write}
-use Rattle.cluster_history.specs.History.{History, Start, After, IsHistory, after_all, empty}
+use Rattle.cluster_history.specs.History.{History, Start, IsHistory, empty}
 use Rattle.payloads.specs.Laws.{AreBytes}
 use Rattle.payloads.proofs.Combinators.{AreBytes-rest}
-use Rattle.cluster_file.specs.Files.{Standing, Stands, Damaged, header, is_more, next_record, record_form, standing_from, stands, history_of, history_in}
-use Rattle.cluster_file.specs.Writing.{AreWrites, HoldsWrites, IsDamagedAfter, empty_file, history_after, piece, place_after, records}
-use Rattle.cluster_file.proofs.Walking.{Ends, reads, walked, closed_gate, broken_gate, reads_history, records-none, records-first, records-push, count-records, some_length}
+use Rattle.cluster_file.specs.Files.{Standing, Stands, Damaged, header, is_more, next_record, standing_from, stands, history_of, history_in}
+use Rattle.cluster_file.specs.Writing.{AreWrites, HoldsWrites, IsDamagedAfter, history_after, place_after, records}
+use Rattle.cluster_file.proofs.Walking.{Ends, reads, walked, closed_gate, broken_gate, reads_history, records-none, count-records, some_length}
 
 -- ---- texts
 
@@ -101,10 +101,10 @@ file_read bytes tail ws are some is long =
     let rest : drop 8 bytes ≡ records ws ++ tail = ap (drop 8) is' ∙ drop_at header (records ws ++ tail) 8 length-header in (
       n,
       same_header bytes long front
-      ∙ ap (λ (l : List ℕ). standing_from (length bytes) (Start empty) 8 l) rest
-      ∙ ap (λ m. standing_from m (Start empty) 8 (records ws ++ tail)) bound
-      ∙ walked (suc n) (Start empty) 8 ws tail are.fit are.agree some
-      ∙ ap (λ p. standing_from (suc n) (history_after ws) p tail) (sym (place-is ws)),
+          ∙ ap (λ (l : List ℕ). standing_from (length bytes) (Start empty) 8 l) rest
+          ∙ ap (λ m. standing_from m (Start empty) 8 (records ws ++ tail)) bound
+          ∙ walked (suc n) (Start empty) 8 ws tail are.fit are.agree some
+          ∙ ap (λ p. standing_from (suc n) (history_after ws) p tail) (sym (place-is ws)),
     )
 
 no_records : (ws : List Write) → length (records ws) ≤ 0 → ws ≡ []

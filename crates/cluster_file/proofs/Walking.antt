@@ -5,7 +5,7 @@ use Rattle.std.proofs.lemmas.Bool.{and_parts, and_from, ne_eqb, eqb-true}
 use Rattle.std.proofs.lemmas.List.{append-nil}
 use Rattle.std.proofs.lemmas.Grind.{flat_map-append}
 use Rattle.cluster_objects.specs.declared.objects.Write.{Write}
-use Rattle.cluster_history.specs.History.{History, Start, After, IsHistory, after_all, empty}
+use Rattle.cluster_history.specs.History.{History, After, IsHistory, after_all}
 use Rattle.payloads.specs.Laws.{AreBytes}
 use Rattle.payloads.proofs.Combinators.{AreBytes-rest}
 use Rattle.cluster_file.specs.Files.{Standing, Stands, Damaged, record_form, is_more, is_open, next_record, goes_on, standing_from, history_of}

@@ -36,6 +36,7 @@ pub fn damage_is_at_a_gate()
 /// the gate decides: 1 adds exactly that write, and any other byte leaves the writes as they were.
 pub fn gates_decide()
     ensures empty { HoldsWrites empty_file [] }
+    ensures within { (bytes : List ℕ) (ws : List Write) → HoldsWrites bytes ws → place_after ws < length bytes }
     ensures behind { (bytes other : List ℕ) (ws : List Write) → HoldsWrites bytes ws → take (place_after ws + 1) other ≡ take (place_after ws + 1) bytes → HoldsWrites other ws }
     ensures opened { (ws : List Write) (w : Write) (next : ℕ) (rest : List ℕ) → next ≢ 1 → HoldsWrites (header ++ records ws ++ 1 ∷ (piece w next ++ rest)) (ws ++ w ∷ []) }
     ensures closed { (ws : List Write) (w : Write) (gate next : ℕ) (rest : List ℕ) → gate ≢ 1 → HoldsWrites (header ++ records ws ++ gate ∷ (piece w next ++ rest)) ws }

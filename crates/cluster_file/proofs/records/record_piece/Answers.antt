@@ -1,4 +1,4 @@
-use Rattle.std.proofs.Common.{ℕ, List, length, ◌<◌, ◌^◌, sym, subst, ap, ◌∙◌, arith}
+use Rattle.std.proofs.Common.{ℕ, List, length, ◌<◌, ◌^◌, subst, ◌∙◌}
 use Rattle.cluster_file.proofs.RecordForms.{record-fits, piece-spelled}
 use Rattle.cluster_file.proofs.records.record_piece.Goals as goal
 

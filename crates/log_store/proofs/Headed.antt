@@ -5,6 +5,7 @@ use Rattle.cluster_objects.specs.declared.objects.Write.{Write}
 use Rattle.cluster_file.specs.Files.{Damaged, Stands, header, standing_from, stands}
 use Rattle.cluster_file.specs.Writing.{history_after}
 use Rattle.cluster_file.proofs.Standing.{other_header, same_header, stands_short}
+use Rattle.cluster_objects.proofs.Stamping.{same_text-refl, same_text-true}
 use Rattle.object_store.specs.declared.cluster.ClusterFault.{ClusterFault}
 use Rattle.log_store.specs.Folding.{Folds}
 

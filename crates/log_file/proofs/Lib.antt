@@ -1,0 +1,7 @@
+pub mod Adding
+pub mod Beginning
+pub mod Causes
+pub mod Headed
+pub mod Loading
+pub mod Reading
+pub mod Turning

@@ -1,0 +1,24 @@
+use Rattle.std.proofs.Common.{◌+◌, ℕ, List, Result, Err, length, ap, ◌∙◌}
+use Rattle.cluster_file.specs.Writing.{place_after}
+use Rattle.olm_disk.specs.Disk.{written}
+use Rattle.olm_io.specs.declared.traits.Outage.{Outage}
+use Rattle.log_file.proofs.Adding.{first_fails, second_ends, staged}
+use Rattle.log_file.proofs.disk_calls.add_record.Goals as goal
+
+pub returns-in-Ok-clause-adds : goal.returns-in-Ok-clause-adds
+returns-in-Ok-clause-adds g c told ws w at is settled =
+    let old = g.D.Disk.content c.args.disk.now in
+    let mid = g.D.Disk.content c.write_and_sync.new.disk in
+    let second = c.write_and_sync-in-Ok.ensures in
+    let told2 = c.write_and_sync.ensures.tells ∙ told in
+    let put = c.in-Ok.ensures.written told ∙ ap (λ n. written (n + 1) c.args.record_piece.now old) at ∙ ap (λ (l : List ℕ). written (place_after ws + 1) l old) is in
+    let st = staged old mid (g.D.Disk.pending c.write_and_sync.new.disk) ws w settled.holds put (c.in-Ok.ensures.durable told) in
+    second_ends c.write_and_sync-in-Ok.result c.args.gate mid (g.D.Disk.content c.write_and_sync-in-Ok.new.disk) (g.D.Disk.pending c.write_and_sync.new.disk) (g.D.Disk.pending c.write_and_sync-in-Ok.new.disk)
+    ws w at st (second.written told2) (second.durable told2) (second.torn told2) second.memory
+
+pub returns-in-Err-clause-adds : goal.returns-in-Err-clause-adds
+returns-in-Err-clause-adds g c told ws w at is settled =
+    first_fails c.in-Err.outage c.args.gate (length c.args.record_piece.now) (g.D.Disk.content c.args.disk.now) (g.D.Disk.content c.write_and_sync.new.disk) (g.D.Disk.pending c.args.disk.now) (g.D.Disk.pending c.write_and_sync.new.disk)
+    ws w at settled
+    (λ e. c.write_and_sync.ensures.torn told (c.in-Err.is ∙ ap (λ (x : Outage). let r : Result Unit Outage = Err x in r) e))
+    (λ e. c.write_and_sync.ensures.memory (c.in-Err.is ∙ ap (λ (x : Outage). let r : Result Unit Outage = Err x in r) e))

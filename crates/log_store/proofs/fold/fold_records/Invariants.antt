@@ -1,5 +1,0 @@
-use Rattle.log_store.proofs.Turning.{FoldsOn}
-use Rattle.log_store.proofs.fold.fold_records.Given as goal
-
-abbrev pub invariant-loop : goal.invariant-loop
-invariant-loop l = FoldsOn l.total l.counter l.fn.store l.store l.bytes l.rest

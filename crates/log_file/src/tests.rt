@@ -16,7 +16,7 @@ enum Told {
     Memory,
 }
 
-fn told<D: Disk>(alloc: Global, disk: &mut D) -> Told {
+fn opened_as<D: Disk>(alloc: Global, disk: &mut D) -> Told {
     match open_file(alloc, disk, 4) {
         Ok(Opened { store, gate }) => Told::Writes {
             count: store.length(),
@@ -46,7 +46,7 @@ fn files_are_opened(rt: HostRuntime) -> Result<(), Fail> {
     let alloc = rt.alloc();
     for (content, wanted) in FILES {
         let mut disk = SureDisk::new(alloc, bytes(alloc, content)?);
-        assert_eq!(rt; told(alloc, &mut disk), wanted);
+        assert_eq!(rt; opened_as(alloc, &mut disk), wanted);
     }
     Ok(())
 }
@@ -83,11 +83,11 @@ fn a_record_is_read_again(rt: HostRuntime) -> Result<(), Fail> {
     let alloc = rt.alloc();
     let piece = piece(alloc)?;
     let mut disk = SureDisk::new(alloc, bytes(alloc, b"")?);
-    assert_eq!(rt; told(alloc, &mut disk), Told::Writes { count: 0, gate: 8 });
+    assert_eq!(rt; opened_as(alloc, &mut disk), Told::Writes { count: 0, gate: 8 });
     assert_eq!(rt; added(&mut disk, 8, piece.as_slice()), Some(true));
-    assert_eq!(rt; told(alloc, &mut disk), Told::Writes { count: 1, gate: 76 });
+    assert_eq!(rt; opened_as(alloc, &mut disk), Told::Writes { count: 1, gate: 76 });
     assert_eq!(rt; added(&mut disk, 76, piece.as_slice()), Some(true));
-    assert_eq!(rt; told(alloc, &mut disk), Told::Damaged { at: 76 });
+    assert_eq!(rt; opened_as(alloc, &mut disk), Told::Damaged { at: 76 });
     Ok(())
 }
 
@@ -102,9 +102,9 @@ fn each_call_of_an_addition_may_fail(rt: HostRuntime) -> Result<(), Fail> {
     for (fails, count, gate) in FAILS {
         let fails = Many::from_vec(vec![in alloc; fails]?);
         let mut disk = MemDisk::new(alloc, bytes(alloc, b"")?, fails);
-        assert_eq!(rt; told(alloc, &mut disk), Told::Writes { count: 0, gate: 8 });
+        assert_eq!(rt; opened_as(alloc, &mut disk), Told::Writes { count: 0, gate: 8 });
         assert_eq!(rt; added(&mut disk, 8, piece.as_slice()), Some(false));
-        assert_eq!(rt; told(alloc, &mut disk), Told::Writes { count, gate });
+        assert_eq!(rt; opened_as(alloc, &mut disk), Told::Writes { count, gate });
     }
     Ok(())
 }

@@ -83,9 +83,15 @@ fn a_record_is_read_again(rt: HostRuntime) -> Result<(), Fail> {
     let alloc = rt.alloc();
     let piece = piece(alloc)?;
     let mut disk = SureDisk::new(alloc, bytes(alloc, b"")?);
-    assert_eq!(rt; opened_as(alloc, &mut disk), Told::Writes { count: 0, gate: 8 });
+    assert_eq!(rt;
+        opened_as(alloc, &mut disk),
+        Told::Writes { count: 0, gate: 8 }
+    );
     assert_eq!(rt; added(&mut disk, 8, piece.as_slice()), Some(true));
-    assert_eq!(rt; opened_as(alloc, &mut disk), Told::Writes { count: 1, gate: 76 });
+    assert_eq!(rt;
+        opened_as(alloc, &mut disk),
+        Told::Writes { count: 1, gate: 76 }
+    );
     assert_eq!(rt; added(&mut disk, 76, piece.as_slice()), Some(true));
     assert_eq!(rt; opened_as(alloc, &mut disk), Told::Damaged { at: 76 });
     Ok(())
@@ -102,7 +108,10 @@ fn each_call_of_an_addition_may_fail(rt: HostRuntime) -> Result<(), Fail> {
     for (fails, count, gate) in FAILS {
         let fails = Many::from_vec(vec![in alloc; fails]?);
         let mut disk = MemDisk::new(alloc, bytes(alloc, b"")?, fails);
-        assert_eq!(rt; opened_as(alloc, &mut disk), Told::Writes { count: 0, gate: 8 });
+        assert_eq!(rt;
+            opened_as(alloc, &mut disk),
+            Told::Writes { count: 0, gate: 8 }
+        );
         assert_eq!(rt; added(&mut disk, 8, piece.as_slice()), Some(false));
         assert_eq!(rt; opened_as(alloc, &mut disk), Told::Writes { count, gate });
     }

@@ -1,20 +1,18 @@
 -- There is one question.
 use Rattle.std.proofs.Common.{◌≡◌, ℕ, List, sym, ◌∙◌, Option, Some, None, Ok}
-use Rattle.cluster_history.specs.Views.{View}
 use Rattle.view_basis.specs.Basis.{basis}
 use Rattle.view_basis.specs.Visible.{visible_catalogs}
 use Rattle.problem_build.specs.Laws.{ThereIsOne}
 use Rattle.one_subscription.specs.Asked.{asked_view}
-use Rattle.catalog_choice.specs.Asking.{IsAskedBy, IsOfView, IsUnmet, name_of}
-use Rattle.catalog_choice.specs.Laws.{ThereIsOneQuestion}
+use Rattle.catalog_choice.specs.Asking.{IsAskedBy, IsUnmet, name_of}
+use Rattle.catalog_choice.specs.Laws.{ThereIsOneQuestion, ViewsAskOnce}
 use Rattle.catalog_choice.specs.declared.asking.Question.{Question}
 
 of_unmet : (question other : Question) → IsUnmet (Ok question) → IsUnmet (Ok other) → (question.problem ≡ other.problem) × (question.names ≡ other.names)
 of_unmet question other h k = (h.0 ∙ sym k.0, h.1 ∙ sym k.1)
 
-of_view : ThereIsOne → (view : View) (question other : Question) → IsOfView view (Ok question) → IsOfView view (Ok other)
-    → (question.problem ≡ other.problem) × (question.names ≡ other.names)
-of_view law view question other (built, (reached, are, answer), problem_same, names_same) (built', (reached', are', answer'), problem_same', names_same') =
+pub views_ask_once : ThereIsOne → ViewsAskOnce
+views_ask_once law view question other (built, (reached, are, answer), problem_same, names_same) (built', (reached', are', answer'), problem_same', names_same') =
     let both = law (basis view) (visible_catalogs view) built.problem built'.problem built.names built'.names
     (record { reached = reached; are_reached = are; is_problem = answer.0; are_names = answer.1 })
     (record { reached = reached'; are_reached = are'; is_problem = answer'.0; are_names = answer'.1 }) in
@@ -23,7 +21,7 @@ of_view law view question other (built, (reached, are, answer), problem_same, na
 by : ThereIsOne → (body : List ℕ) (owner channel : Option (List ℕ)) (question other : Question)
     → IsAskedBy body owner channel (Ok question) → IsAskedBy body owner channel (Ok other)
     → (question.problem ≡ other.problem) × (question.names ≡ other.names)
-by law body (Some owner) (Some channel) question other h k = of_view law (asked_view body owner channel) question other h k
+by law body (Some owner) (Some channel) question other h k = views_ask_once law (asked_view body owner channel) question other h k
 by law body (Some owner) None question other h k = of_unmet question other h k
 by law body None channel question other h k = of_unmet question other h k
 

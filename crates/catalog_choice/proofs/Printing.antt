@@ -8,7 +8,6 @@ use Rattle.cluster_objects.specs.declared.statuses.SubSpec.{SubSpec}
 use Rattle.op_constraints.specs.declared.Constraint.{Constraint}
 use Rattle.op_constraints.specs.Walks.{picks}
 use Rattle.view_basis.specs.Basis.{basis as basis_of}
-use Rattle.cluster_history.specs.Views.{View}
 use Rattle.view_basis.specs.Tips.{tip_offer}
 use Rattle.view_basis.specs.Visible.{visible_catalogs}
 use Rattle.view_basis.specs.declared.visible.Visible.{Visible}
@@ -22,8 +21,8 @@ use Rattle.problem_build.specs.declared.names.VarName.TheVariants as variable
 use Rattle.answer_lines.specs.declared.Pick.{Pick}
 use Rattle.answer_lines.specs.declared.Pick.TheVariants.{Take, Keep}
 use Rattle.one_subscription.specs.Asked.{asked_view}
-use Rattle.catalog_choice.specs.Asking.{IsAskedBy, IsUnmet, IsOfView, name_of, unmet}
-use Rattle.catalog_choice.specs.Laws.{PicksArePrinted}
+use Rattle.catalog_choice.specs.Asking.{IsAskedBy, IsUnmet, name_of, unmet}
+use Rattle.catalog_choice.specs.Laws.{PicksArePrinted, PicksOfViewsArePrinted}
 use Rattle.catalog_choice.specs.Picked.{pick_at, pick_of, picked}
 use Rattle.catalog_choice.specs.declared.asking.Question.{Question}
 
@@ -117,9 +116,8 @@ of_unmet question numbers h =
     let none : picks question.problem numbers ≡ [] = ap (λ (p : List (List Constraint)). picks p numbers) h.0 ∙ nothing_picked numbers in
     ap (λ (vs : List ℕ). length (filter_map (pick_at question.names) vs)) none ∙ sym (ap length none)
 
-of_view : PicksAreEntriesOrTips → (view : View) (question : Question) (numbers : List ℕ) → IsOfView view (Ok question)
-    → length (picked question.names question.problem numbers) ≡ length (picks question.problem numbers)
-of_view law view question numbers (built, (reached, are, answer), problem_same, names_same) =
+pub picks_of_views_are_printed : PicksAreEntriesOrTips → PicksOfViewsArePrinted
+picks_of_views_are_printed law view question numbers (built, (reached, are, answer), problem_same, names_same) =
     let basis = basis_of view in
     let catalogs = visible_catalogs view in
     let e = problem_same ∙ answer.0 in
@@ -131,7 +129,7 @@ of_view law view question numbers (built, (reached, are, answer), problem_same, 
 by : PicksAreEntriesOrTips → (body : List ℕ) (owner channel : Option (List ℕ)) (question : Question) (numbers : List ℕ)
     → IsAskedBy body owner channel (Ok question)
     → length (picked question.names question.problem numbers) ≡ length (picks question.problem numbers)
-by law body (Some owner) (Some channel) question numbers h = of_view law (asked_view body owner channel) question numbers h
+by law body (Some owner) (Some channel) question numbers h = picks_of_views_are_printed law (asked_view body owner channel) question numbers h
 by law body (Some owner) None question numbers h = of_unmet question numbers h
 by law body None channel question numbers h = of_unmet question numbers h
 

@@ -24,6 +24,12 @@ IsOfView view (Ok question) =
     × (question.problem ≡ built.problem) × (question.names ≡ built.names)
 IsOfView view (Err fault) = IsBuilt (basis view) (visible_catalogs view) (Err fault)
 
+-- The question has no variable.
+abbrev pub IsNothing : Result Question BuildFault → Type 0
+IsNothing (Ok question) = (question.problem ≡ []) × (question.names ≡ [])
+IsNothing (Err (TooManyVariables count)) = ⊥
+IsNothing (Err Memory) = Unit {0}
+
 -- One subscription, which must be there, and nothing meets it.
 abbrev pub unmet : List (List Constraint)
 unmet = (Mandatory ∷ Dependency [] ∷ []) ∷ []

@@ -33,12 +33,16 @@ pub record IsTold (question : Question) (budget : ℕ) (decision : Decision) (an
   pub decided : answer.decided ≡ decided_of decision
   pub accepted : verified question.problem (certificate_text (certificate_of decision)) ≡ (accepted_line (verdict_text (shown budget decision)), true)
 
--- A decision within the budget of what is asked is told. Where nothing can be asked, that is the fault.
-abbrev pub IsAnswered : List ℕ → List ℕ → List ℕ → ℕ → Result Answer BuildFault → Type 0
-IsAnswered body owner channel budget (Ok answer) =
-    (question : Question) × (decision : Decision) × IsAsked body owner channel (Ok question)
+-- A decision within the budget of a question is told. Where nothing can be asked, that is the fault.
+abbrev pub IsAnsweredBy : (Result Question BuildFault → Type 0) → ℕ → Result Answer BuildFault → Type 0
+IsAnsweredBy Asks budget (Ok answer) =
+    (question : Question) × (decision : Decision) × Asks (Ok question)
     × IsDecision question.problem budget decision × IsTold question budget decision answer
-IsAnswered body owner channel budget (Err fault) = IsAsked body owner channel (Err fault)
+IsAnsweredBy Asks budget (Err fault) = Asks (Err fault)
+
+-- The same of what a catalog of this body is asked by a package and a channel.
+abbrev pub IsAnswered : List ℕ → List ℕ → List ℕ → ℕ → Result Answer BuildFault → Type 0
+IsAnswered body owner channel budget answer = IsAnsweredBy (IsAsked body owner channel) budget answer
 
 -- The line of a text over a problem, and whether the text shows what is right of it.
 pub record IsJudged (question : Question) (certificate : List ℕ) (checked : Checked) : Type 0 where

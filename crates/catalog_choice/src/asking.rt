@@ -1,5 +1,5 @@
 // The problem that a catalog, a package and a channel put.
-ghost use Rattle.std.specs.Prelude.{◌≡◌, IfOk};
+ghost use Rattle.std.specs.Prelude.{◌≡◌, IfOk, Ok};
 ghost use Rattle.op_constraints.specs.Meets.{IsClosed};
 ghost use Rattle.catalog_choice.specs.Asking as spec;
 
@@ -28,8 +28,8 @@ fn name_of(alloc: Global, text: &[u8]) -> Result<Option<Name>, Memory>
     }
 }
 
-/// The question of a view.
-fn of_view(alloc: Global, view: &View) -> Result<Question, BuildFault>
+/// What a view asks. Too many variables come exactly where its problem is above the limit.
+pub fn ask_view(alloc: Global, view: &View) -> Result<Question, BuildFault>
     ensures asked { spec.IsOfView view.now result }
     ensures closed { IfOk result (λ question. IsClosed question.problem) }
 {
@@ -40,6 +40,17 @@ fn of_view(alloc: Global, view: &View) -> Result<Question, BuildFault>
         basis: _,
     } = problem_of(alloc, view)?;
     Ok(Question { problem, names })
+}
+
+/// The question of what asks nothing. It has no variable, and the choice of nothing meets it.
+pub fn ask_nothing(alloc: Global) -> Question
+    ensures asked { spec.IsNothing (Ok result) }
+    ensures closed { IsClosed result.problem }
+{
+    Question {
+        problem: Problem::new(alloc),
+        names: Many::new(alloc),
+    }
 }
 
 fn unmet_problem(alloc: Global) -> Result<Problem, Memory>
@@ -76,7 +87,7 @@ fn ask_by(
     match (package_name, channel) {
         (Some(package_name), Some(channel)) => {
             let view = asked_view(alloc, body, &package_name, &channel)?;
-            of_view(alloc, &view)
+            ask_view(alloc, &view)
         }
         (Some(_), None) => unmet(alloc),
         (None, _) => unmet(alloc),

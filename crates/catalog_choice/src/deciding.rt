@@ -1,11 +1,13 @@
 // What is told of a question.
-ghost use Rattle.std.specs.Prelude.{◌≡◌, ◌<◌, ◌^◌, ℕ, length, IfOk};
+ghost use Rattle.std.specs.Prelude.{◌≡◌, ◌<◌, ◌^◌, ℕ, length, IfOk, Ok};
 ghost use Rattle.op_constraints.specs.Meets.{IsClosed};
 ghost use Rattle.preference_search.specs.Decided.{IsDecision};
+ghost use Rattle.catalog_choice.specs.Asking.{IsNothing, IsOfView};
 ghost use Rattle.catalog_choice.specs.Deciding as spec;
 
-use crate::{Question, ask, picks_of};
+use crate::{Question, ask, ask_nothing, ask_view, picks_of};
 use answer_lines::{Checked, Pick, answer_text, verify};
+use object_store::View;
 use olm_base::{Bytes, Many, Memory};
 use preference_search::{Decision, decide};
 use problem_build::BuildFault;
@@ -64,6 +66,22 @@ fn tell(alloc: Global, question: &Question, budget: u32) -> Result<Answer, Memor
         text: answer_text(alloc, picks.as_slice(), &decision)?,
         decided: decided_of(&decision),
     })
+}
+
+/// Decides what a view asks, with no more lemmas than the budget.
+pub fn decide_text(alloc: Global, view: &View, budget: u32) -> Result<Answer, BuildFault>
+    ensures { spec.IsAnsweredBy (IsOfView view.now) budget result }
+{
+    let question = ask_view(alloc, view)?;
+    Ok(tell(alloc, &question, budget)?)
+}
+
+/// Decides for what asks nothing: nothing is chosen.
+pub fn decide_nothing(alloc: Global, budget: u32) -> Result<Answer, Memory>
+    ensures { IfOk result (λ answer. spec.IsAnsweredBy IsNothing budget (Ok answer)) }
+{
+    let question = ask_nothing(alloc);
+    tell(alloc, &question, budget)
 }
 
 /// Decides what a catalog of this body is asked by a package and a channel, with no more lemmas than the budget.

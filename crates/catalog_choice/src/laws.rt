@@ -1,6 +1,6 @@
 //! What is so of everything that is asked: each contract is a law over the definitions that the other contracts cite.
 
-ghost use Rattle.catalog_choice.specs.Laws.{AnswersAreAccepted, PicksArePrinted, ThereIsOneQuestion};
+ghost use Rattle.catalog_choice.specs.Laws.{AnswersAreAccepted, PicksArePrinted, PicksOfViewsArePrinted, ThereIsOneQuestion, ViewsAskOnce};
 
 use problem_build::{picks_are_entries_or_tips, problem_is_one};
 
@@ -12,10 +12,26 @@ pub fn there_is_one_question()
     problem_is_one();
 }
 
+/// A view asks one question.
+#[tactic(auto, using(crate::proofs::Once::views_ask_once))]
+pub fn views_ask_once()
+    ensures { ViewsAskOnce }
+{
+    problem_is_one();
+}
+
 /// Each variable that a walk picks is printed.
 #[tactic(auto, using(crate::proofs::Printing::picks_are_printed))]
 pub fn picks_are_printed()
     ensures { PicksArePrinted }
+{
+    picks_are_entries_or_tips();
+}
+
+/// Each variable that a walk of a view's problem picks is printed.
+#[tactic(auto, using(crate::proofs::Printing::picks_of_views_are_printed))]
+pub fn picks_of_views_are_printed()
+    ensures { PicksOfViewsArePrinted }
 {
     picks_are_entries_or_tips();
 }

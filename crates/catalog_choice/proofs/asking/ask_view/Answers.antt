@@ -1,7 +1,7 @@
 use Rattle.view_basis.specs.Basis.{basis}
 use Rattle.view_basis.specs.Visible.{visible_catalogs}
 use Rattle.catalog_choice.proofs.Closing.{built_is_closed}
-use Rattle.catalog_choice.proofs.asking.of_view.Goals as goal
+use Rattle.catalog_choice.proofs.asking.ask_view.Goals as goal
 
 pub returns-clause-closed : goal.returns-clause-closed
 returns-clause-closed c =

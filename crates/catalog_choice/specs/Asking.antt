@@ -1,4 +1,4 @@
--- The problem that a catalog's body, a package and a channel put.
+-- The problem that a view puts, and that a catalog's body, a package and a channel put.
 use Rattle.std.specs.Prelude.{◌≡◌, ℕ, if◌then◌else◌, List, [], ◌∷◌, Option, Some, None, Result, Ok, Err}
 use Rattle.olm_base.specs.Names.{is_name}
 use Rattle.cluster_history.specs.Views.{View}
@@ -24,7 +24,7 @@ IsOfView view (Ok question) =
     × (question.problem ≡ built.problem) × (question.names ≡ built.names)
 IsOfView view (Err fault) = IsBuilt (basis view) (visible_catalogs view) (Err fault)
 
--- The question has no variable.
+-- The question has no variable, if there is memory to make it.
 abbrev pub IsNothing : Result Question BuildFault → Type 0
 IsNothing (Ok question) = (question.problem ≡ []) × (question.names ≡ [])
 IsNothing (Err (TooManyVariables count)) = ⊥
@@ -34,7 +34,7 @@ IsNothing (Err Memory) = Unit {0}
 abbrev pub unmet : List (List Constraint)
 unmet = (Mandatory ∷ Dependency [] ∷ []) ∷ []
 
--- The question is that problem, and its variable has no name.
+-- The question is that problem, if there is memory to make it, and its variable has no name.
 abbrev pub IsUnmet : Result Question BuildFault → Type 0
 IsUnmet (Ok question) = (question.problem ≡ unmet) × (question.names ≡ [])
 IsUnmet (Err (TooManyVariables count)) = ⊥

@@ -20,6 +20,6 @@ abbrev pub slot_line : List ℕ → Key × Slot → List ℕ
 slot_line namespace entry =
     if same_text entry.0.namespace namespace then object_line entry.0 entry.1.version entry.1.object else []
 
--- A line for each object of the view's own namespace, in key order: not for those of the global namespaces, nor for what has no namespace.
+-- A line for each object of the view's own namespace, in key order: not for those of other global namespaces, nor for what has no namespace.
 abbrev pub shown : View → List ℕ
 shown view = flat_map (slot_line view.namespace) view.slots

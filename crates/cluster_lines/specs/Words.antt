@@ -1,4 +1,4 @@
--- The word that is printed of an object: its phase, its state, how far it is, or what it is.
+-- The word that is printed of an object: its phase, its state, how far it is, its outcome, or what it is.
 use Rattle.std.specs.Prelude.{ℕ, List, codes}
 use Rattle.cluster_objects.specs.declared.objects.Status.{Status}
 use Rattle.cluster_objects.specs.declared.objects.Status.TheVariants as status

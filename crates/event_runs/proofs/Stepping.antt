@@ -11,7 +11,7 @@ use Rattle.event_script.specs.declared.events.Event.TheVariants as event
 use Rattle.user_events.specs.Answers.{Answers}
 use Rattle.user_events.specs.declared.answers.UserAnswer.{UserAnswer}
 use Rattle.user_events.specs.declared.answers.UserAnswer.TheVariants as answer
-use Rattle.folder_events.specs.Events.{Asks, is_users}
+use Rattle.folder_events.specs.Events.{Asks, HasKey, is_of_folder, is_users}
 use Rattle.event_runs.specs.Lines.{done_line, refused_line, restart_line}
 use Rattle.event_runs.specs.Runs.{Files, Halts, MayLeave, Nothing, Wrote, Reopened, IsReopened, Passes, Written, Refused, Restarted, Prints, Steps}
 use Rattle.event_runs.specs.declared.halts.Halt.{Halt}
@@ -19,7 +19,7 @@ use Rattle.event_runs.specs.declared.halts.Halt.TheVariants as halt
 
 module _ (tells : Bool) (fits : History → Write → Bool) (limit : ℕ) (files : Files) (h new : History) (e : Event) (before now : Option (List ℕ)) where
   -- An event that went by with a line, and the putting of that line. Where memory ran out the write may stand without it.
-  pub printed : (line : List ℕ) → Passes tells files h e new line → MayLeave tells files h e new
+  pub printed : (line : List ℕ) → Passes tells fits limit files h e new line → MayLeave tells fits limit files h e new
       → (r : Result Unit Halt) → Prints line before now r → Steps tells fits limit files h e new before now r
   printed line passes may (Ok done) p = (line, passes, p)
   printed line passes may (Err halt.OutputFailed) p = (line, passes, p)
@@ -33,16 +33,16 @@ module _ (tells : Bool) (fits : History → Write → Bool) (limit : ℕ) (files
       → (r : Result Unit Halt) → Prints (done_line e key version) before now r → Steps tells fits limit files h e new before now r
   done_steps key version (w, (asks, room, made), same_key, same_version) r p =
       printed (done_line e key version)
-      (subst (λ n. Passes tells files h e n (done_line e key version)) (sym made)
-      (subst (λ (k : Key). Passes tells files h e (After w h) (done_line e k version)) (sym same_key)
-      (subst (λ v. Passes tells files h e (After w h) (done_line e w.key v)) (sym (same_version ∙ ap position made)) (Written e w asks))))
-      (subst (MayLeave tells files h e) (sym made) (Wrote e w asks)) r p
+      (subst (λ n. Passes tells fits limit files h e n (done_line e key version)) (sym made)
+      (subst (λ (k : Key). Passes tells fits limit files h e (After w h) (done_line e k version)) (sym same_key)
+      (subst (λ v. Passes tells fits limit files h e (After w h) (done_line e w.key v)) (sym (same_version ∙ ap position made)) (Written e w asks room))))
+      (subst (MayLeave tells fits limit files h e) (sym made) (Wrote e w asks room)) r p
 
   pub refused_steps : (reason : List ℕ) → Answers fits limit h (Asks files h e) new (answer.Refused reason)
       → (r : Result Unit Halt) → Prints (refused_line e reason) before now r → Steps tells fits limit files h e new before now r
   refused_steps reason (asks, same) r p =
       printed (refused_line e reason)
-      (subst (λ n. Passes tells files h e n (refused_line e reason)) (sym same) (Refused e reason asks)) (subst (MayLeave tells files h e) (sym same) (Nothing e)) r p
+      (subst (λ n. Passes tells fits limit files h e n (refused_line e reason)) (sym same) (Refused e reason asks)) (subst (MayLeave tells fits limit files h e) (sym same) (Nothing e)) r p
 
 -- An event that is no user's is a restart.
 no_users : (e : Event) → is_users e ≡ false → e ≡ event.Restart
@@ -64,10 +64,10 @@ module _ (tells : Bool) (fits : History → Write → Bool) (limit : ℕ) (files
       (printed tells fits limit files h new event.Restart before now restart_line (Restarted new same) (Reopened new same) r p)
 
   pub reopen_steps : (before : Option (List ℕ)) → Steps tells fits limit files h e new before before (Err halt.StoreFailed)
-  reopen_steps before = at_restart (λ e. Steps tells fits limit files h e new before before (Err halt.StoreFailed)) (Reopened new same, Appends-nil before)
+  reopen_steps before = at_restart (λ e. Steps tells fits limit files h e new before before (Err halt.StoreFailed)) (tt, Reopened new same, Appends-nil before)
 
-  pub damaged_steps : (before : Option (List ℕ)) (at : ℕ) → Steps tells fits limit files h e new before before (Err (halt.Damaged at))
-  damaged_steps before at = (no_users e users, same, Appends-nil before)
+  pub damaged_steps : (before : Option (List ℕ)) (at : ℕ) → tells ≡ false → Steps tells fits limit files h e new before before (Err (halt.Damaged at))
+  damaged_steps before at untold = (untold, no_users e users, Appends-nil before)
 
   pub unread_steps : (before : Option (List ℕ)) → Steps tells fits limit files h e new before before (Err halt.Memory)
   unread_steps before = at_restart (λ e. Steps tells fits limit files h e new before before (Err halt.Memory)) (Reopened new same, Appends-nil before)
@@ -77,12 +77,12 @@ module _ (tells : Bool) (fits : History → Write → Bool) (limit : ℕ) (files
   pub full_steps : Answers fits limit h (Asks files h e) new answer.Full → Steps tells fits limit files h e new before before (Err halt.Full)
   full_steps (w, asks, room, same) = (w, asks, room, same, Appends-nil before)
 
-  pub lost_steps : Answers fits limit h (Asks files h e) new answer.StoreFailed → Steps tells fits limit files h e new before before (Err halt.StoreFailed)
-  lost_steps (inl same) = (subst (MayLeave tells files h e) (sym same) (Nothing e), Appends-nil before)
-  lost_steps (inr (w, asks, room, made)) = (subst (MayLeave tells files h e) (sym made) (Wrote e w asks), Appends-nil before)
+  pub lost_steps : HasKey e → Answers fits limit h (Asks files h e) new answer.StoreFailed → Steps tells fits limit files h e new before before (Err halt.StoreFailed)
+  lost_steps key (inl same) = (key, subst (MayLeave tells fits limit files h e) (sym same) (Nothing e), Appends-nil before)
+  lost_steps key (inr (w, asks, room, made)) = (key, subst (MayLeave tells fits limit files h e) (sym made) (Wrote e w asks room), Appends-nil before)
 
-  pub folder_steps : Answers fits limit h (Asks files h e) new answer.FolderFailed → Steps tells fits limit files h e new before before (Err halt.FolderFailed)
-  folder_steps same = (same, Appends-nil before)
+  pub folder_steps : is_of_folder e ≡ true → Answers fits limit h (Asks files h e) new answer.FolderFailed → Steps tells fits limit files h e new before before (Err halt.FolderFailed)
+  folder_steps folder same = (folder, same, Appends-nil before)
 
   pub memory_steps : Answers fits limit h (Asks files h e) new answer.Memory → Steps tells fits limit files h e new before before (Err halt.Memory)
-  memory_steps same = (subst (MayLeave tells files h e) (sym same) (Nothing e), Appends-nil before)
+  memory_steps same = (subst (MayLeave tells fits limit files h e) (sym same) (Nothing e), Appends-nil before)

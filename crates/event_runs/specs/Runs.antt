@@ -8,7 +8,7 @@ use Rattle.object_store.specs.Puts.{has_room}
 use Rattle.event_script.specs.declared.events.Event.{Event}
 use Rattle.event_script.specs.declared.events.Event.TheVariants as event
 use Rattle.user_events.specs.declared.refusals.Refusal.TheVariants.{Reason}
-use Rattle.folder_events.specs.Events.{Asks}
+use Rattle.folder_events.specs.Events.{Asks, HasKey, is_of_folder}
 use Rattle.event_runs.specs.Lines.{done_line, refused_line, restart_line}
 use Rattle.event_runs.specs.declared.halts.Halt.{Halt}
 use Rattle.event_runs.specs.declared.halts.Halt.TheVariants as halt
@@ -21,37 +21,39 @@ Files = Option (List (List ℕ × List ℕ))
 abbrev pub IsReopened : Bool → History → History → Type 0
 IsReopened tells h new = tells ≡ true → new ≡ h
 
--- An event goes by: after a history, with the history that it leaves and its line. A user's event appends the write that it asks for, or is refused with its reason.
-pub data Passes (tells : Bool) (files : Files) (h : History) : Event → History → List ℕ → Type 0 where
-  Written : (e : Event) (w : Write) → Asks files h e (Ok w) → Passes tells files h e (After w h) (done_line e w.key (position (After w h)))
-  Refused : (e : Event) (reason : List ℕ) → Asks files h e (Err (Reason reason)) → Passes tells files h e h (refused_line e reason)
-  Restarted : (new : History) → IsReopened tells h new → Passes tells files h event.Restart new restart_line
+-- An event goes by: after a history, with the history that it leaves and its line. A user's event appends the write that it asks for, where the store has room for it, or is refused with its reason.
+pub data Passes (tells : Bool) (fits : History → Write → Bool) (limit : ℕ) (files : Files) (h : History) : Event → History → List ℕ → Type 0 where
+  Written : (e : Event) (w : Write) → Asks files h e (Ok w) → has_room (fits h w) limit h ≡ true
+      → Passes tells fits limit files h e (After w h) (done_line e w.key (position (After w h)))
+  Refused : (e : Event) (reason : List ℕ) → Asks files h e (Err (Reason reason)) → Passes tells fits limit files h e h (refused_line e reason)
+  Restarted : (new : History) → IsReopened tells h new → Passes tells fits limit files h event.Restart new restart_line
 
 -- All events of a list go by, one after the other: the history before and afterwards, and the lines.
-pub data AllPass (tells : Bool) (files : Files) : History → List Event → History → List ℕ → Type 0 where
-  NoEvents : (h : History) → AllPass tells files h [] h []
+pub data AllPass (tells : Bool) (fits : History → Write → Bool) (limit : ℕ) (files : Files) : History → List Event → History → List ℕ → Type 0 where
+  NoEvents : (h : History) → AllPass tells fits limit files h [] h []
   Next : (h mid new : History) (e : Event) (es : List Event) (line lines : List ℕ)
-      → Passes tells files h e mid line → AllPass tells files mid es new lines → AllPass tells files h (e ∷ es) new (line ++ lines)
+      → Passes tells fits limit files h e mid line → AllPass tells fits limit files mid es new lines
+      → AllPass tells fits limit files h (e ∷ es) new (line ++ lines)
 
 -- What an event may leave that has no line: the history as it was, or with the write that the event asks for, or what a restart leaves.
-pub data MayLeave (tells : Bool) (files : Files) (h : History) : Event → History → Type 0 where
-  Nothing : (e : Event) → MayLeave tells files h e h
-  Wrote : (e : Event) (w : Write) → Asks files h e (Ok w) → MayLeave tells files h e (After w h)
-  Reopened : (new : History) → IsReopened tells h new → MayLeave tells files h event.Restart new
+pub data MayLeave (tells : Bool) (fits : History → Write → Bool) (limit : ℕ) (files : Files) (h : History) : Event → History → Type 0 where
+  Nothing : (e : Event) → MayLeave tells fits limit files h e h
+  Wrote : (e : Event) (w : Write) → Asks files h e (Ok w) → has_room (fits h w) limit h ≡ true → MayLeave tells fits limit files h e (After w h)
+  Reopened : (new : History) → IsReopened tells h new → MayLeave tells fits limit files h event.Restart new
 
--- Where a run ends at an event: the history before it and afterwards, and what the output held before it and holds now. The event's line isn't put, and where the output fails a front of it is. Only a call of the store that failed, and want of memory, leave open whether the write stands.
+-- Where a run ends at an event: the history before it and afterwards, and what the output held before it and holds now. The event's line isn't put, and where the output fails a front of it is. A call of the store that failed, and want of memory, leave open whether the write stands. Damage isn't found where the store tells what it holds.
 abbrev pub Halts : Bool → (History → Write → Bool) → ℕ → Files → History → Event → History → Option (List ℕ) → Option (List ℕ) → Halt → Type 0
-Halts tells fits limit files h e new before now halt.OutputFailed = (line : List ℕ) × Passes tells files h e new line × AppendsFront before now line
-Halts tells fits limit files h e new before now halt.FolderFailed = (new ≡ h) × Appends before now []
-Halts tells fits limit files h e new before now halt.StoreFailed = MayLeave tells files h e new × Appends before now []
-Halts tells fits limit files h e new before now (halt.Damaged at) = (e ≡ event.Restart) × IsReopened tells h new × Appends before now []
+Halts tells fits limit files h e new before now halt.OutputFailed = (line : List ℕ) × Passes tells fits limit files h e new line × AppendsFront before now line
+Halts tells fits limit files h e new before now halt.FolderFailed = (is_of_folder e ≡ true) × (new ≡ h) × Appends before now []
+Halts tells fits limit files h e new before now halt.StoreFailed = HasKey e × MayLeave tells fits limit files h e new × Appends before now []
+Halts tells fits limit files h e new before now (halt.Damaged at) = (tells ≡ false) × (e ≡ event.Restart) × Appends before now []
 Halts tells fits limit files h e new before now halt.Full =
     (w : Write) × Asks files h e (Ok w) × (has_room (fits h w) limit h ≡ false) × (new ≡ h) × Appends before now []
-Halts tells fits limit files h e new before now halt.Memory = MayLeave tells files h e new × Appends before now []
+Halts tells fits limit files h e new before now halt.Memory = MayLeave tells fits limit files h e new × Appends before now []
 
 -- What one event of a run comes to: it goes by and its line is put, or the run ends at it.
 abbrev pub Steps : Bool → (History → Write → Bool) → ℕ → Files → History → Event → History → Option (List ℕ) → Option (List ℕ) → Result Unit Halt → Type 0
-Steps tells fits limit files h e new before now (Ok done) = (line : List ℕ) × Passes tells files h e new line × Appends before now line
+Steps tells fits limit files h e new before now (Ok done) = (line : List ℕ) × Passes tells fits limit files h e new line × Appends before now line
 Steps tells fits limit files h e new before now (Err end) = Halts tells fits limit files h e new before now end
 
 -- The event of a list at which a run ends: those before it have gone by with these lines, and those behind it aren't applied.
@@ -63,13 +65,13 @@ pub record HaltsAmong (tells : Bool) (fits : History → Write → Bool) (limit 
   pub lines : List ℕ
   pub between : Option (List ℕ)
   pub split : es ≡ earlier ++ at ∷ later
-  pub passed : AllPass tells files h earlier mid lines
+  pub passed : AllPass tells fits limit files h earlier mid lines
   pub printed : Appends before between lines
   pub halted : Halts tells fits limit files mid at new between now end
 
 -- A run of the events, by how it ended.
 abbrev pub Runs : Bool → (History → Write → Bool) → ℕ → Files → History → List Event → History → Option (List ℕ) → Option (List ℕ) → Result Unit Halt → Type 0
-Runs tells fits limit files h es new before now (Ok done) = (lines : List ℕ) × AllPass tells files h es new lines × Appends before now lines
+Runs tells fits limit files h es new before now (Ok done) = (lines : List ℕ) × AllPass tells fits limit files h es new lines × Appends before now lines
 Runs tells fits limit files h es new before now (Err end) = HaltsAmong tells fits limit files h es new before now end
 
 -- a call of the store, the folder or the output failed

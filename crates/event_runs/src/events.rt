@@ -3,9 +3,10 @@ ghost use Rattle.std.specs.Prelude.{◌≡◌, ℕ, Bool, true, false, OnOk};
 ghost use Rattle.olm_io.specs.Outside.{HasCause};
 ghost use Rattle.cluster_objects.specs.declared.objects.Write.{Write};
 ghost use Rattle.cluster_history.specs.History.{History};
+ghost use Rattle.object_store.specs.Puts.{IsSound};
 ghost use Rattle.event_script.specs.Ranges.{IsInRange};
 ghost use Rattle.user_events.specs.Answers as answers;
-ghost use Rattle.folder_events.specs.Events.{Asks, is_users};
+ghost use Rattle.folder_events.specs.Events.{Asks, HasKey, is_of_folder, is_users};
 ghost use Rattle.event_runs.specs.Lines as lines;
 ghost use Rattle.event_runs.specs.Runs as spec;
 
@@ -70,6 +71,8 @@ fn conclude<O: Sink>(
     answer: UserAnswer,
     out: &mut O,
 ) -> Result<(), Halt>
+    requires key { answers.store_failed answer ≡ true → HasKey event.now }
+    requires folder { answers.folder_failed answer ≡ true → is_of_folder event.now ≡ true }
     ensures steps { (tells : Bool) (fits : History → Write → Bool) (limit : ℕ) (files : spec.Files) (h new : History) → answers.Answers fits limit h (Asks files h event.now) new answer
         → spec.Steps tells fits limit files h event.now new (O.held out.old) (O.held out.new) result }
     ensures store { spec.store_failed result ≡ answers.store_failed answer }
@@ -94,11 +97,13 @@ fn run_users<C: Cluster, F: Folder, O: Sink>(
     out: &mut O,
 ) -> Result<(), Halt>
     requires ready { C.ready cluster.old ≡ true }
+    requires sound { IsSound (C.tells cluster.old) (C.ready cluster.old) (C.damage cluster.old) }
     requires users { is_users event.now ≡ true }
     requires range { IsInRange event.now }
     ensures steps { spec.Steps (C.tells cluster.old) C.fits (C.limit cluster.old) (F.held folder.old) (C.history cluster.old) event.now (C.history cluster.new) (O.held out.old) (O.held out.new) result }
     ensures tells { C.tells cluster.new ≡ C.tells cluster.old }
     ensures limit { C.limit cluster.new ≡ C.limit cluster.old }
+    ensures sound { IsSound (C.tells cluster.new) (C.ready cluster.new) (C.damage cluster.new) }
     ensures ready { OnOk result (C.ready cluster.new ≡ true) }
     ensures same { F.held folder.new ≡ F.held folder.old }
     ensures store { HasCause (C.faults cluster.old) (C.faults cluster.new) (spec.store_failed result ≡ true) }
@@ -123,11 +128,14 @@ fn restart<C: Cluster, O: Sink>(
     cluster: &mut C,
     out: &mut O,
 ) -> Result<(), Halt>
-    requires { is_users event.now ≡ false }
+    requires users { is_users event.now ≡ false }
+    requires sound { IsSound (C.tells cluster.old) (C.ready cluster.old) (C.damage cluster.old) }
+    requires ready { C.ready cluster.old ≡ true }
     ensures steps { (fits : History → Write → Bool) (limit : ℕ) (files : spec.Files)
         → spec.Steps (C.tells cluster.old) fits limit files (C.history cluster.old) event.now (C.history cluster.new) (O.held out.old) (O.held out.new) result }
     ensures tells { C.tells cluster.new ≡ C.tells cluster.old }
     ensures limit { C.limit cluster.new ≡ C.limit cluster.old }
+    ensures sound { IsSound (C.tells cluster.new) (C.ready cluster.new) (C.damage cluster.new) }
     ensures ready { OnOk result (C.ready cluster.new ≡ true) }
     ensures store { HasCause (C.faults cluster.old) (C.faults cluster.new) (spec.store_failed result ≡ true) }
     ensures folder { spec.folder_failed result ≡ false }
@@ -150,10 +158,12 @@ pub(crate) fn run_event<C: Cluster, F: Folder, O: Sink>(
     out: &mut O,
 ) -> Result<(), Halt>
     requires ready { C.ready cluster.old ≡ true }
+    requires sound { IsSound (C.tells cluster.old) (C.ready cluster.old) (C.damage cluster.old) }
     requires range { IsInRange event.now }
     ensures steps { spec.Steps (C.tells cluster.old) C.fits (C.limit cluster.old) (F.held folder.old) (C.history cluster.old) event.now (C.history cluster.new) (O.held out.old) (O.held out.new) result }
     ensures tells { C.tells cluster.new ≡ C.tells cluster.old }
     ensures limit { C.limit cluster.new ≡ C.limit cluster.old }
+    ensures sound { IsSound (C.tells cluster.new) (C.ready cluster.new) (C.damage cluster.new) }
     ensures ready { OnOk result (C.ready cluster.new ≡ true) }
     ensures same { F.held folder.new ≡ F.held folder.old }
     ensures store { HasCause (C.faults cluster.old) (C.faults cluster.new) (spec.store_failed result ≡ true) }

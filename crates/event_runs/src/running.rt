@@ -1,6 +1,7 @@
 // All events of a run.
 ghost use Rattle.std.specs.Prelude.{◌≡◌, true, All, OnOk};
 ghost use Rattle.olm_io.specs.Outside.{HasCause};
+ghost use Rattle.object_store.specs.Puts.{IsSound};
 ghost use Rattle.event_script.specs.Ranges.{IsInRange};
 ghost use Rattle.event_runs.specs.Runs as spec;
 
@@ -24,10 +25,12 @@ pub fn run_events<C: Cluster, F: Folder, O: Sink>(
     out: &mut O,
 ) -> Result<(), Halt>
     requires ready { C.ready cluster.old ≡ true }
+    requires sound { IsSound (C.tells cluster.old) (C.ready cluster.old) (C.damage cluster.old) }
     requires ranges { All IsInRange events.now }
     ensures runs { spec.Runs (C.tells cluster.old) C.fits (C.limit cluster.old) (F.held folder.old) (C.history cluster.old) events.now (C.history cluster.new) (O.held out.old) (O.held out.new) result }
     ensures tells { C.tells cluster.new ≡ C.tells cluster.old }
     ensures limit { C.limit cluster.new ≡ C.limit cluster.old }
+    ensures sound { IsSound (C.tells cluster.new) (C.ready cluster.new) (C.damage cluster.new) }
     ensures ready { OnOk result (C.ready cluster.new ≡ true) }
     ensures same { F.held folder.new ≡ F.held folder.old }
     ensures store { HasCause (C.faults cluster.old) (C.faults cluster.new) (spec.store_failed result ≡ true) }

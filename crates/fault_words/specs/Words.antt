@@ -10,7 +10,7 @@ use Rattle.olm_base.specs.declared.fields.FieldKind.TheVariants as kind
 abbrev pub placed : ℕ → List ℕ → List ℕ
 placed at what = codes "at " ++ decimal at ++ codes ": " ++ what
 
--- a text that is no stream of blobs
+-- A text that is no stream of blobs. Want of memory is no fault of a text, and has its words here for want of others; so for fields.
 abbrev pub stream_words : StreamFault → List ℕ
 stream_words (stream.NotObject at) = placed at (codes "not an object")
 stream_words (stream.TooDeep at) = placed at (codes "too deep")
@@ -40,7 +40,7 @@ field_words blob path kind = of_blob blob (path ++ codes " " ++ kind_words kind)
 abbrev pub split_words : List ℕ → StreamFault → List ℕ
 split_words path fault = path ++ codes " " ++ stream_words fault
 
--- a file that would belong to a catalog, and isn't read
+-- a YAML or ignore file that is listed, and isn't read
 abbrev pub unread_words : List ℕ → List ℕ
 unread_words path = codes "file " ++ path ++ codes " isn't read"
 

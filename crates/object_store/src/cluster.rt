@@ -3,7 +3,7 @@ ghost use Rattle.std.specs.Prelude.{◌≡◌, Bool, Option, true, not, ℕ, is_
 ghost use Rattle.cluster_history.specs.History.{History, IsHistory};
 ghost use Rattle.cluster_objects.specs.declared.objects.Write.{Write};
 ghost use Rattle.olm_io.specs.Outside.{HasCause};
-ghost use Rattle.object_store.specs.Puts.{Puts, Snapshots, Reopens, has_room, put_failed, fault_failed};
+ghost use Rattle.object_store.specs.Puts.{IsSound, Puts, Snapshots, Reopens, has_room, put_failed, fault_failed};
 
 use crate::View;
 use cluster_objects::Write;
@@ -64,6 +64,7 @@ pub trait Cluster {
         ensures tells { tells self.new ≡ tells self.old }
         ensures limit { limit self.new ≡ limit self.old }
         ensures cause { HasCause (faults self.old) (faults self.new) (fault_failed result ≡ true) }
+        ensures sound { IsSound (tells self.old) (ready self.old) (damage self.old) → IsSound (tells self.new) (ready self.new) (damage self.new) }
         ensures ready { ready self.new ≡ not (fault_failed result) };
 
     /// Appends the write, if its key has the version that it expects and there is room.
@@ -73,6 +74,7 @@ pub trait Cluster {
         ensures tells { tells self.new ≡ tells self.old }
         ensures limit { limit self.new ≡ limit self.old }
         ensures cause { HasCause (faults self.old) (faults self.new) (put_failed result ≡ true) }
+        ensures sound { IsSound (tells self.old) (ready self.old) (damage self.old) → IsSound (tells self.new) (ready self.new) (damage self.new) }
         ensures ready { ready self.new ≡ not (put_failed result) };
 
     /// Opens the store again after a fault. A history stays one, also where the store doesn't tell what its file holds.
@@ -83,6 +85,7 @@ pub trait Cluster {
         ensures tells { tells self.new ≡ tells self.old }
         ensures limit { limit self.new ≡ limit self.old }
         ensures cause { HasCause (faults self.old) (faults self.new) (fault_failed result ≡ true) }
+        ensures sound { IsSound (tells self.old) (ready self.old) (damage self.old) → IsSound (tells self.new) (ready self.new) (damage self.new) }
         ensures ready { ready self.new ≡ is_ok result };
 }
 

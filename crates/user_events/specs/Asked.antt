@@ -1,5 +1,5 @@
 -- What a user's event asks for after a history: one write, or a refusal.
-use Rattle.std.specs.Prelude.{ℕ, List, Option, Result, Ok, Err}
+use Rattle.std.specs.Prelude.{ℕ, ℤ, List, Option, Result, Ok, Err}
 use Rattle.json_fields.specs.Faults.{and_then}
 use Rattle.cluster_objects.specs.declared.keys.Key.{Key}
 use Rattle.cluster_objects.specs.declared.objects.Object.{Object}
@@ -11,7 +11,7 @@ use Rattle.cluster_history.specs.History.{History, position, slot}
 use Rattle.cluster_history.specs.declared.slots.Slot.{Slot}
 use Rattle.object_bodies.specs.Bodies.{user_object}
 use Rattle.object_bodies.specs.declared.faults.ObjectFault.{ObjectFault}
-use Rattle.user_events.specs.Places.{plan_key, deployment_key, resolution_key}
+use Rattle.user_events.specs.Places.{catalog_key, plan_key, deployment_key, resolution_key}
 use Rattle.user_events.specs.Reasons.{body_refusal}
 use Rattle.user_events.specs.Wishes.{wished}
 use Rattle.user_events.specs.declared.refusals.Refusal.{Refusal}
@@ -50,3 +50,7 @@ ready h namespace name state = asked_at h (deployment_key namespace name) (wishe
 
 abbrev pub retry : History → List ℕ → Option ℕ → Result Write Refusal
 retry h namespace budget = asked_at h (resolution_key namespace) (wishes.Retry budget)
+
+-- Of a body that is given, valid or not. It is never refused.
+abbrev pub catalog : History → List ℕ → List ℕ → List ℕ → ℤ → Result Write Refusal
+catalog h namespace name body priority = asked_at h (catalog_key namespace name) (wishes.Catalog body priority)

@@ -1,5 +1,5 @@
 -- What becomes of the object at a key by what a user wishes of it. The old object is what stands at the key, if anything does, and `seen` is the length of the history.
-use Rattle.std.specs.Prelude.{Bool, true, false, ◌&&◌, not, if◌then◌else◌, ℕ, List, [], codes, Option, Some, None, Result, Ok}
+use Rattle.std.specs.Prelude.{Bool, true, false, ◌&&◌, not, if◌then◌else◌, ℕ, ℤ, List, [], codes, Option, Some, None, Result, Ok}
 use Rattle.std.specs.Option.{unwrap_or}
 use Rattle.cluster_objects.specs.Kinds.{csv_at, deployment_at, plan_at, resolution_at, subscription_at, is_resolution_key}
 use Rattle.cluster_objects.specs.declared.keys.Key.{Key}
@@ -125,6 +125,11 @@ abbrev pub retried : Option ℕ → Key → Option Object → ℕ → Object
 retried budget key None seen = new_resolution budget seen
 retried budget key (Some object) seen = tried_again budget object seen (resolution_at key (Some object))
 
+-- ---- catalog: a new CatalogSource, whatever is there
+
+abbrev pub new_catalog : List ℕ → ℤ → ℕ → Object
+new_catalog body priority seen = written body (status.Catalog (record { priority = priority })) None seen
+
 -- ---- each of them: the object that is to stand at the key, and None where none is to
 
 abbrev pub wished : Wish → Key → Option Object → ℕ → Result (Option Object) Refusal
@@ -133,3 +138,4 @@ wished wishes.Delete key old seen = deleted key old
 wished wishes.Approve key old seen = approved key old seen
 wished (wishes.Ready state) key old seen = readied state key old seen
 wished (wishes.Retry budget) key old seen = Ok (Some (retried budget key old seen))
+wished (wishes.Catalog body priority) key old seen = Ok (Some (new_catalog body priority seen))

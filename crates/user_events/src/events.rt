@@ -206,3 +206,44 @@ pub fn retry<C: Cluster>(
         Err(Memory) => UserAnswer::Memory,
     }
 }
+
+fn catalog_key(alloc: Global, namespace: &Name, name: &Name) -> Result<Key, Memory>
+    ensures key { IfOk result (λ key. key ≡ places.catalog_key namespace.now name.now) }
+    ensures place { IfOk result (λ key. places.is_place namespace.now ≡ true) }
+{
+    key_in(
+        alloc,
+        "operators.coreos.com",
+        b"CatalogSource",
+        namespace,
+        name,
+    )
+}
+
+fn discard_body(_body: Bytes) {}
+
+/// Gives a catalog source this body and this priority, whatever stands there. Whether the body is a catalog is for the
+/// caller to know.
+pub fn write_catalog<C: Cluster>(
+    alloc: Global,
+    namespace: &Name,
+    name: &Name,
+    body: Bytes,
+    priority: i64,
+    cluster: &mut C,
+) -> UserAnswer
+    requires ready { C.ready cluster.old ≡ true }
+    ensures answer { Answers C.fits (C.limit cluster.old) (C.history cluster.old) (λ asked. spec.catalog (C.history cluster.old) namespace.now name.now body priority ≡ asked) (C.history cluster.new) result }
+    ensures limit { C.limit cluster.new ≡ C.limit cluster.old }
+    ensures cause { HasCause (C.faults cluster.old) (C.faults cluster.new) (store_failed result ≡ true) }
+    ensures ready { C.ready cluster.new ≡ not (store_failed result) }
+    ensures folder { folder_failed result ≡ false }
+{
+    match catalog_key(alloc, namespace, name) {
+        Ok(key) => carry_out(alloc, key, Wish::Catalog { body, priority }, cluster),
+        Err(Memory) => {
+            discard_body(body);
+            UserAnswer::Memory
+        }
+    }
+}

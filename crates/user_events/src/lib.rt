@@ -15,7 +15,8 @@ mod reviving;
 mod wishes;
 
 pub use answers::UserAnswer;
-pub use events::{apply, approve, delete, ready, retry};
+pub use events::{apply, approve, delete, ready, retry, write_catalog};
+pub use refusals::{Refusal, because};
 
 #[cfg(test)]
 mod tests;

@@ -67,8 +67,8 @@ fn numbered(alloc: Global, front: &str, number: u64) -> Result<Text, Memory>
     joined(alloc, front, digits.as_str())
 }
 
-/// A refusal in these words.
-pub(crate) fn because(words: Result<Text, Memory>) -> Refusal
+/// A refusal in these words, or want of memory where there was none for them.
+pub fn because(words: Result<Text, Memory>) -> Refusal
     ensures words { IfOk words (λ words. result ≡ Refusal.Reason words) }
     ensures memory { IfErr words (λ e. result ≡ Refusal.Memory) }
 {

@@ -13,6 +13,7 @@ enum Step {
     Approve(&'static [u8]),
     Ready(&'static [u8], Readiness),
     Retry(Option<u32>),
+    Catalog(&'static [u8], i64),
 }
 
 fn name(alloc: Global, text: &[u8]) -> Result<Name, Fail> {
@@ -44,6 +45,11 @@ fn make(alloc: Global, cluster: &mut SureCluster, step: Step) -> Result<UserAnsw
             Ok(ready(alloc, &namespace, &name(alloc, object)?, state, cluster))
         }
         Step::Retry(budget) => Ok(retry(alloc, &namespace, budget, cluster)),
+        Step::Catalog(object, priority) => {
+            let object = name(alloc, object)?;
+            let body = Bytes::from_vec(Vec::new(alloc));
+            Ok(write_catalog(alloc, &namespace, &object, body, priority, cluster))
+        }
     }
 }
 
@@ -73,8 +79,10 @@ const PLAN: &[u8] =
 
 const WEB: &[u8] = b"apps/Deployment/default/web";
 
-// Events in a store with room for five writes, each with the key or the reason, and the version.
-const STEPS: [(Step, &[u8], u64); 13] = [
+const OLM: &[u8] = b"operators.coreos.com/CatalogSource/default/olm";
+
+// Events in a store with room for seven writes, each with the key or the reason, and the version.
+const STEPS: [(Step, &[u8], u64); 15] = [
     (Step::Ready(b"web", Readiness::Ready), b"absent", 0),
     (Step::Apply(BODY), WEB, 1),
     (Step::Apply(NAMELESS), b"no-name", 0),
@@ -99,13 +107,15 @@ const STEPS: [(Step, &[u8], u64); 13] = [
         b"olmctl.local/Resolution/default/current",
         5,
     ),
+    (Step::Catalog(b"olm", -1), OLM, 6),
+    (Step::Catalog(b"olm", 7), OLM, 7),
     (Step::Apply(BODY), b"full", 0),
 ];
 
 #[test]
 fn events_are_answered(rt: HostRuntime) -> Result<(), Fail> {
     let alloc = rt.alloc();
-    let mut cluster = SureCluster::new(alloc, 5);
+    let mut cluster = SureCluster::new(alloc, 7);
     for (step, wanted, version) in STEPS {
         let answer = told(alloc, make(alloc, &mut cluster, step)?)?;
         assert!(rt; answer.0.as_slice() == wanted);

@@ -9,7 +9,7 @@ use crate::applying::applied;
 use crate::objects::{approved, deleted, readied};
 use crate::refusals::Refusal;
 use crate::reviving::retried;
-use cluster_objects::{Key, Object, Readiness, Status};
+use cluster_objects::{CatalogStatus, Key, Object, Readiness, Status};
 use olm_base::{Bytes, Memory};
 use std::alloc::Global;
 
@@ -26,6 +26,8 @@ pub enum Wish {
     Ready { state: Readiness },
     /// There is to be a new resolution, with this budget of lemmas.
     Retry { budget: Option<u32> },
+    /// There is to be a new catalog source, with this body and this priority.
+    Catalog { body: Bytes, priority: i64 },
 }
 
 fn applied_whole(
@@ -40,6 +42,18 @@ fn applied_whole(
     match applied(body, &status, key, old, seen) {
         Ok(object) => Ok(Some(object)),
         Err(Memory) => Err(Refusal::Memory),
+    }
+}
+
+fn new_catalog(body: Bytes, priority: i64, seen: u64) -> Object
+    ensures { result ≡ spec.new_catalog body priority seen }
+{
+    Object {
+        body,
+        status: Status::Catalog(CatalogStatus { priority }),
+        owner: None,
+        stamp: None,
+        seen,
     }
 }
 
@@ -59,5 +73,6 @@ pub(crate) fn wished(
         Wish::Approve => approved(alloc, key, old, seen),
         Wish::Ready { state } => readied(alloc, state, key, old, seen),
         Wish::Retry { budget } => Ok(Some(retried(alloc, budget, key, old, seen)?)),
+        Wish::Catalog { body, priority } => Ok(Some(new_catalog(body, priority, seen))),
     }
 }

@@ -4,7 +4,7 @@ ghost use Rattle.std.specs.Option.{option_map, unwrap_or};
 ghost use Rattle.cluster_objects.specs.Keys.{same_text};
 ghost use Rattle.cluster_history.specs.History.{never_written, position, slot, slot_in};
 ghost use Rattle.cluster_history.specs.Views.{is_visible};
-ghost use Rattle.object_store.specs.Puts.{Agrees};
+ghost use Rattle.object_store.specs.Puts.{Agrees, IsSound};
 ghost use Rattle.olm_base.specs.Outcome.{Gives};
 ghost use Rattle.olm_base.specs.Names.{is_name};
 ghost use Rattle.olm_io.specs.Outside.{HasCause};
@@ -60,6 +60,8 @@ fn look<C: Cluster>(alloc: Global, key: &Key, cluster: &mut C) -> Result<View, O
     ensures length { IfOk result (λ view. view.length ≡ position (C.history cluster.old)) }
     ensures history { C.history cluster.new ≡ C.history cluster.old }
     ensures limit { C.limit cluster.new ≡ C.limit cluster.old }
+    ensures tells { C.tells cluster.new ≡ C.tells cluster.old }
+    ensures sound { IsSound (C.tells cluster.old) (C.ready cluster.old) (C.damage cluster.old) → IsSound (C.tells cluster.new) (C.ready cluster.new) (C.damage cluster.new) }
     ensures cause { HasCause (C.faults cluster.old) (C.faults cluster.new) (outage_failed result ≡ true) }
     ensures ready { C.ready cluster.new ≡ not (outage_failed result) }
 {
@@ -117,6 +119,8 @@ fn put<C: Cluster>(alloc: Global, write: Write, cluster: &mut C) -> UserAnswer
     requires agrees { Agrees (C.history cluster.old) write }
     ensures answer { Answers C.fits (C.limit cluster.old) (C.history cluster.old) (λ asked. Ok write ≡ asked) (C.history cluster.new) result }
     ensures limit { C.limit cluster.new ≡ C.limit cluster.old }
+    ensures tells { C.tells cluster.new ≡ C.tells cluster.old }
+    ensures sound { IsSound (C.tells cluster.old) (C.ready cluster.old) (C.damage cluster.old) → IsSound (C.tells cluster.new) (C.ready cluster.new) (C.damage cluster.new) }
     ensures cause { HasCause (C.faults cluster.old) (C.faults cluster.new) (store_failed result ≡ true) }
     ensures ready { C.ready cluster.new ≡ not (store_failed result) }
     ensures folder { folder_failed result ≡ false }
@@ -147,6 +151,8 @@ fn put_asked<C: Cluster>(
     requires length { view.now.length ≡ position (C.history cluster.old) }
     ensures answer { Answers C.fits (C.limit cluster.old) (C.history cluster.old) (λ asked. spec.asked_at (C.history cluster.old) key wish ≡ asked) (C.history cluster.new) result }
     ensures limit { C.limit cluster.new ≡ C.limit cluster.old }
+    ensures tells { C.tells cluster.new ≡ C.tells cluster.old }
+    ensures sound { IsSound (C.tells cluster.old) (C.ready cluster.old) (C.damage cluster.old) → IsSound (C.tells cluster.new) (C.ready cluster.new) (C.damage cluster.new) }
     ensures cause { HasCause (C.faults cluster.old) (C.faults cluster.new) (store_failed result ≡ true) }
     ensures ready { C.ready cluster.new ≡ not (store_failed result) }
     ensures folder { folder_failed result ≡ false }
@@ -169,6 +175,8 @@ pub(crate) fn carry_out<C: Cluster>(
     requires place { is_place key.namespace ≡ true }
     ensures answer { Answers C.fits (C.limit cluster.old) (C.history cluster.old) (λ asked. spec.asked_at (C.history cluster.old) key wish ≡ asked) (C.history cluster.new) result }
     ensures limit { C.limit cluster.new ≡ C.limit cluster.old }
+    ensures tells { C.tells cluster.new ≡ C.tells cluster.old }
+    ensures sound { IsSound (C.tells cluster.old) (C.ready cluster.old) (C.damage cluster.old) → IsSound (C.tells cluster.new) (C.ready cluster.new) (C.damage cluster.new) }
     ensures cause { HasCause (C.faults cluster.old) (C.faults cluster.new) (store_failed result ≡ true) }
     ensures ready { C.ready cluster.new ≡ not (store_failed result) }
     ensures folder { folder_failed result ≡ false }

@@ -5,6 +5,7 @@ ghost use Rattle.olm_base.specs.Names.{is_name};
 ghost use Rattle.olm_base.specs.Outcome.{Gives};
 ghost use Rattle.olm_io.specs.Outside.{HasCause};
 ghost use Rattle.object_bodies.specs.Bodies.{user_object};
+ghost use Rattle.object_store.specs.Puts.{IsSound};
 ghost use Rattle.user_events.specs.Answers.{Answers, store_failed, folder_failed};
 ghost use Rattle.user_events.specs.Asked as spec;
 ghost use Rattle.user_events.specs.Places as places;
@@ -67,6 +68,8 @@ pub fn apply<C: Cluster>(alloc: Global, body: &Bytes, cluster: &mut C) -> UserAn
     ensures answer { Answers C.fits (C.limit cluster.old) (C.history cluster.old) (λ asked. spec.apply (C.history cluster.old) body.now ≡ asked) (C.history cluster.new) result }
     ensures body { store_failed result ≡ true → IsOk (user_object body.now) }
     ensures limit { C.limit cluster.new ≡ C.limit cluster.old }
+    ensures tells { C.tells cluster.new ≡ C.tells cluster.old }
+    ensures sound { IsSound (C.tells cluster.old) (C.ready cluster.old) (C.damage cluster.old) → IsSound (C.tells cluster.new) (C.ready cluster.new) (C.damage cluster.new) }
     ensures cause { HasCause (C.faults cluster.old) (C.faults cluster.new) (store_failed result ≡ true) }
     ensures ready { C.ready cluster.new ≡ not (store_failed result) }
     ensures folder { folder_failed result ≡ false }
@@ -108,6 +111,8 @@ pub fn delete<C: Cluster>(
     requires place { places.is_place namespace.now ≡ true }
     ensures answer { Answers C.fits (C.limit cluster.old) (C.history cluster.old) (λ asked. spec.delete (C.history cluster.old) (record { group = group.now; kind = kind.now; namespace = namespace.now; name = name.now }) ≡ asked) (C.history cluster.new) result }
     ensures limit { C.limit cluster.new ≡ C.limit cluster.old }
+    ensures tells { C.tells cluster.new ≡ C.tells cluster.old }
+    ensures sound { IsSound (C.tells cluster.old) (C.ready cluster.old) (C.damage cluster.old) → IsSound (C.tells cluster.new) (C.ready cluster.new) (C.damage cluster.new) }
     ensures cause { HasCause (C.faults cluster.old) (C.faults cluster.new) (store_failed result ≡ true) }
     ensures ready { C.ready cluster.new ≡ not (store_failed result) }
     ensures folder { folder_failed result ≡ false }
@@ -141,6 +146,8 @@ pub fn approve<C: Cluster>(
     requires ready { C.ready cluster.old ≡ true }
     ensures answer { Answers C.fits (C.limit cluster.old) (C.history cluster.old) (λ asked. spec.approve (C.history cluster.old) namespace.now name.now ≡ asked) (C.history cluster.new) result }
     ensures limit { C.limit cluster.new ≡ C.limit cluster.old }
+    ensures tells { C.tells cluster.new ≡ C.tells cluster.old }
+    ensures sound { IsSound (C.tells cluster.old) (C.ready cluster.old) (C.damage cluster.old) → IsSound (C.tells cluster.new) (C.ready cluster.new) (C.damage cluster.new) }
     ensures cause { HasCause (C.faults cluster.old) (C.faults cluster.new) (store_failed result ≡ true) }
     ensures ready { C.ready cluster.new ≡ not (store_failed result) }
     ensures folder { folder_failed result ≡ false }
@@ -169,6 +176,8 @@ pub fn ready<C: Cluster>(
     requires ready { C.ready cluster.old ≡ true }
     ensures answer { Answers C.fits (C.limit cluster.old) (C.history cluster.old) (λ asked. spec.ready (C.history cluster.old) namespace.now name.now state ≡ asked) (C.history cluster.new) result }
     ensures limit { C.limit cluster.new ≡ C.limit cluster.old }
+    ensures tells { C.tells cluster.new ≡ C.tells cluster.old }
+    ensures sound { IsSound (C.tells cluster.old) (C.ready cluster.old) (C.damage cluster.old) → IsSound (C.tells cluster.new) (C.ready cluster.new) (C.damage cluster.new) }
     ensures cause { HasCause (C.faults cluster.old) (C.faults cluster.new) (store_failed result ≡ true) }
     ensures ready { C.ready cluster.new ≡ not (store_failed result) }
     ensures folder { folder_failed result ≡ false }
@@ -197,6 +206,8 @@ pub fn retry<C: Cluster>(
     requires ready { C.ready cluster.old ≡ true }
     ensures answer { Answers C.fits (C.limit cluster.old) (C.history cluster.old) (λ asked. spec.retry (C.history cluster.old) namespace.now budget ≡ asked) (C.history cluster.new) result }
     ensures limit { C.limit cluster.new ≡ C.limit cluster.old }
+    ensures tells { C.tells cluster.new ≡ C.tells cluster.old }
+    ensures sound { IsSound (C.tells cluster.old) (C.ready cluster.old) (C.damage cluster.old) → IsSound (C.tells cluster.new) (C.ready cluster.new) (C.damage cluster.new) }
     ensures cause { HasCause (C.faults cluster.old) (C.faults cluster.new) (store_failed result ≡ true) }
     ensures ready { C.ready cluster.new ≡ not (store_failed result) }
     ensures folder { folder_failed result ≡ false }
@@ -235,6 +246,8 @@ pub fn write_catalog<C: Cluster>(
     requires ready { C.ready cluster.old ≡ true }
     ensures answer { Answers C.fits (C.limit cluster.old) (C.history cluster.old) (λ asked. spec.catalog (C.history cluster.old) namespace.now name.now body priority ≡ asked) (C.history cluster.new) result }
     ensures limit { C.limit cluster.new ≡ C.limit cluster.old }
+    ensures tells { C.tells cluster.new ≡ C.tells cluster.old }
+    ensures sound { IsSound (C.tells cluster.old) (C.ready cluster.old) (C.damage cluster.old) → IsSound (C.tells cluster.new) (C.ready cluster.new) (C.damage cluster.new) }
     ensures cause { HasCause (C.faults cluster.old) (C.faults cluster.new) (store_failed result ≡ true) }
     ensures ready { C.ready cluster.new ≡ not (store_failed result) }
     ensures folder { folder_failed result ≡ false }

@@ -23,9 +23,12 @@ part None = []
 part (Some name) = codes "/" ++ name
 
 -- A broken rule: its number behind a V, and then the package, the channel, and the entry or bundle, with slashes between them.
+abbrev pub rule_words : CheckFault → List ℕ
+rule_words fault =
+    codes "V" ++ decimal fault.rule ++ codes " " ++ fault.«package» ++ part fault.channel ++ part fault.item
+
 abbrev pub fault_line : CheckFault → List ℕ
-fault_line fault =
-    codes "V" ++ decimal fault.rule ++ codes " " ++ fault.«package» ++ part fault.channel ++ part fault.item ++ codes "\n"
+fault_line fault = rule_words fault ++ codes "\n"
 
 abbrev pub fault_lines : List CheckFault → List ℕ
 fault_lines faults = flat_map fault_line faults

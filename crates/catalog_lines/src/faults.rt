@@ -17,8 +17,9 @@ fn put_part(out: &mut Vec<u8>, part: &Option<Name>) -> Result<(), Memory>
     Ok(())
 }
 
-fn put_fault(out: &mut Vec<u8>, alloc: Global, fault: &CheckFault) -> Result<(), Memory>
-    ensures { OnOk result (out.new.items ≡ out.old.items ++ spec.fault_line fault.now) }
+/// A broken rule: `V12 argo/stable/argo.v1.0.0`, for instance.
+pub fn put_rule(out: &mut Vec<u8>, alloc: Global, fault: &CheckFault) -> Result<(), Memory>
+    ensures { OnOk result (out.new.items ≡ out.old.items ++ spec.rule_words fault.now) }
 {
     let rule = fault.rule.to_string(alloc)?;
     out.push(b'V')?;
@@ -27,11 +28,18 @@ fn put_fault(out: &mut Vec<u8>, alloc: Global, fault: &CheckFault) -> Result<(),
     out.extend_from_slice(fault.package.as_bytes())?;
     put_part(out, &fault.channel)?;
     put_part(out, &fault.item)?;
+    Ok(())
+}
+
+fn put_fault(out: &mut Vec<u8>, alloc: Global, fault: &CheckFault) -> Result<(), Memory>
+    ensures { OnOk result (out.new.items ≡ out.old.items ++ spec.fault_line fault.now) }
+{
+    put_rule(out, alloc, fault)?;
     out.push(b'\n')?;
     Ok(())
 }
 
-/// A line for each broken rule, in the order of the list: `V12 argo/stable/argo.v1.0.0`, for instance.
+/// A line for each broken rule, in the order of the list.
 pub fn fault_lines(alloc: Global, faults: &[CheckFault]) -> Result<Bytes, Memory>
     ensures { IfOk result (λ lines. lines ≡ spec.fault_lines faults.now) }
 {

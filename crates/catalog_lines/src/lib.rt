@@ -9,7 +9,7 @@ mod nodes;
 mod sources;
 
 pub use counts::counts_line;
-pub use faults::fault_lines;
+pub use faults::{fault_lines, put_rule};
 pub use graph::graph_lines;
 
 #[cfg(test)]

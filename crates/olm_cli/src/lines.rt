@@ -1,12 +1,12 @@
 // The line on `err`.
-ghost use Rattle.std.specs.Prelude.{◌≡◌, ◌≤◌, ◌⊎◌, ◌++◌, true, IfOk, OnOk, IsOk};
-ghost use Rattle.std.specs.Fmt.{decimal};
+ghost use Rattle.std.specs.Prelude.{◌≡◌, ◌≤◌, ◌⊎◌, true, IfOk, IsOk};
 ghost use Rattle.olm_io.specs.Outside.{Appends, AppendsFront};
 ghost use Rattle.olm_cli.specs.declared.causes.Cause.{Cause};
 ghost use Rattle.olm_cli.specs.Lines as spec;
 
 use crate::causes::Cause;
 use catalog_stream::StreamFault;
+use fault_words::{put_field, put_number, put_split, put_stream, put_unread};
 use olm_base::{FieldKind, Memory, Text};
 use olm_io::{Outage, Sink};
 use std::alloc::Global;
@@ -24,74 +24,11 @@ pub(crate) fn tell<E: Sink>(err: &mut E, line: &[u8]) -> bool
     }
 }
 
-fn kind_text(kind: FieldKind) -> &'static [u8]
-    ensures { result.now ≡ spec.kind_text kind }
-{
-    match kind {
-        FieldKind::Missing => b"missing",
-        FieldKind::WrongType => b"wrong type",
-        FieldKind::Empty => b"empty",
-        FieldKind::BadName => b"bad name",
-        FieldKind::OneOf => b"one of",
-        FieldKind::Base64 => b"base64",
-        FieldKind::Number => b"number",
-        FieldKind::Memory => b"out of memory",
-    }
-}
-
-fn push_number(bytes: &mut Vec<u8>, alloc: Global, number: u64) -> Result<(), Memory>
-    ensures { OnOk result (bytes.new.items ≡ bytes.old.items ++ decimal number) }
-{
-    let digits = number.to_string(alloc)?;
-    bytes.extend_from_slice(digits.as_bytes())?;
-    Ok(())
-}
-
-fn push_placed(bytes: &mut Vec<u8>, alloc: Global, at: u64, what: &[u8]) -> Result<(), Memory>
-    ensures { OnOk result (bytes.new.items ≡ bytes.old.items ++ spec.placed at what.now) }
-{
-    bytes.extend_from_slice(b"at ")?;
-    push_number(bytes, alloc, at)?;
-    bytes.extend_from_slice(b": ")?;
-    bytes.extend_from_slice(what)?;
-    Ok(())
-}
-
-fn push_stream(bytes: &mut Vec<u8>, alloc: Global, fault: StreamFault) -> Result<(), Memory>
-    ensures { OnOk result (bytes.new.items ≡ bytes.old.items ++ spec.stream_text fault) }
-{
-    match fault {
-        StreamFault::NotObject { at } => push_placed(bytes, alloc, at, b"not an object"),
-        StreamFault::TooDeep { at } => push_placed(bytes, alloc, at, b"too deep"),
-        StreamFault::Truncated { at } => push_placed(bytes, alloc, at, b"truncated"),
-        StreamFault::Syntax { at } => push_placed(bytes, alloc, at, b"syntax"),
-        StreamFault::Memory => Err(Memory),
-    }
-}
-
-fn push_field(
-    bytes: &mut Vec<u8>,
-    alloc: Global,
-    blob: u32,
-    path: &Text,
-    kind: FieldKind,
-) -> Result<(), Memory>
-    ensures { OnOk result (bytes.new.items ≡ bytes.old.items ++ spec.field_text blob path.now kind) }
-{
-    bytes.extend_from_slice(b"blob ")?;
-    push_number(bytes, alloc, u64::from(blob))?;
-    bytes.extend_from_slice(b": ")?;
-    bytes.extend_from_slice(path.as_slice())?;
-    bytes.extend_from_slice(b" ")?;
-    bytes.extend_from_slice(kind_text(kind))?;
-    Ok(())
-}
-
 fn stream_line(alloc: Global, fault: StreamFault) -> Result<Vec<u8>, Memory>
     ensures { IfOk result (λ line. line.items ≡ spec.line_of (Cause.Stream fault)) }
 {
     let mut bytes = Vec::from_slice(alloc, b"olmctl: ")?;
-    push_stream(&mut bytes, alloc, fault)?;
+    put_stream(&mut bytes, alloc, fault)?;
     bytes.push(b'\n')?;
     Ok(bytes)
 }
@@ -100,7 +37,7 @@ fn field_line(alloc: Global, blob: u32, path: &Text, kind: FieldKind) -> Result<
     ensures { IfOk result (λ line. line.items ≡ spec.line_of (Cause.Field blob path.now kind)) }
 {
     let mut bytes = Vec::from_slice(alloc, b"olmctl: ")?;
-    push_field(&mut bytes, alloc, blob, path, kind)?;
+    put_field(&mut bytes, alloc, blob, path, kind)?;
     bytes.push(b'\n')?;
     Ok(bytes)
 }
@@ -109,9 +46,7 @@ fn split_line(alloc: Global, path: &Text, fault: StreamFault) -> Result<Vec<u8>,
     ensures { IfOk result (λ line. line.items ≡ spec.line_of (Cause.SplitFile path.now fault)) }
 {
     let mut bytes = Vec::from_slice(alloc, b"olmctl: ")?;
-    bytes.extend_from_slice(path.as_slice())?;
-    bytes.push(b' ')?;
-    push_stream(&mut bytes, alloc, fault)?;
+    put_split(&mut bytes, alloc, path, fault)?;
     bytes.push(b'\n')?;
     Ok(bytes)
 }
@@ -119,9 +54,9 @@ fn split_line(alloc: Global, path: &Text, fault: StreamFault) -> Result<Vec<u8>,
 fn unread_line(alloc: Global, path: &Text) -> Result<Vec<u8>, Memory>
     ensures { IfOk result (λ line. line.items ≡ spec.line_of (Cause.FileNotRead path.now)) }
 {
-    let mut bytes = Vec::from_slice(alloc, b"olmctl: file ")?;
-    bytes.extend_from_slice(path.as_slice())?;
-    bytes.extend_from_slice(b" isn't read\n")?;
+    let mut bytes = Vec::from_slice(alloc, b"olmctl: ")?;
+    put_unread(&mut bytes, path)?;
+    bytes.push(b'\n')?;
     Ok(bytes)
 }
 
@@ -129,7 +64,7 @@ fn variables_line(alloc: Global, count: u64) -> Result<Vec<u8>, Memory>
     ensures { IfOk result (λ line. line.items ≡ spec.line_of (Cause.TooManyVariables count)) }
 {
     let mut bytes = Vec::from_slice(alloc, b"olmctl: variables ")?;
-    push_number(&mut bytes, alloc, count)?;
+    put_number(&mut bytes, alloc, count)?;
     bytes.push(b'\n')?;
     Ok(bytes)
 }

@@ -1,0 +1,5 @@
+use Rattle.lawful_events.proofs.Keeping.{kept}
+use Rattle.lawful_events.proofs.laws.resolutions_stay.Goals as goal
+
+pub returns : goal.returns
+returns c h w key users = (kept h users.0 w users.2 key).resolution

@@ -1,0 +1,4 @@
+pub mod Asks
+pub mod Keeps
+pub mod Rules
+pub mod Runs

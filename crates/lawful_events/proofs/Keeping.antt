@@ -1,4 +1,5 @@
 -- What each write leaves at its own key, and at every key.
+use Rattle.std.specs.Prelude.{ℤ}
 use Rattle.std.proofs.Common.{◌≡◌, false, List, ℕ, Option, Some, None, Ok, refl, sym, ap, ◌∙◌, subst, inl, inr}
 use Rattle.cluster_objects.specs.Kinds.{as_catalog, as_plan, as_resolution, is_catalog_key, is_csv_key, is_plan_key, is_resolution_key, is_subscription_key, csv_at, plan_at, subscription_at}
 use Rattle.cluster_objects.specs.declared.keys.Key.{Key}
@@ -20,12 +21,14 @@ use Rattle.lawful_history.proofs.Allowing.{as_plan-status}
 use Rattle.lawful_history.proofs.Slots.{same_or_other}
 use Rattle.object_bodies.specs.Heads.{is_forbidden}
 use Rattle.object_bodies.specs.Laws.{IsNewAt}
-use Rattle.user_events.specs.Places.{plan_key, deployment_key, resolution_key}
-use Rattle.user_events.specs.Wishes.{applied, kept_csv, kept_subscription, written}
-use Rattle.lawful_events.specs.Asks.{Asks}
+use Rattle.user_events.specs.Places.{catalog_key, plan_key, deployment_key, resolution_key}
+use Rattle.user_events.specs.Wishes.{applied, kept_csv, kept_subscription, new_catalog, written}
+use Rattle.folder_events.specs.Events.{Asks}
+use Rattle.folder_events.specs.Laws.{IsValid}
+use Rattle.folder_events.proofs.Written.{writes_valid}
 use Rattle.lawful_events.specs.Keeps.{KeepsPlan, KeepsResolution, KeepsCatalog}
 use Rattle.lawful_events.proofs.Chains.{counts, counts_not, none_is_some, none_of, some_is}
-use Rattle.lawful_events.proofs.Written.{applied_is, deleted_is, Approval, approved_is, readied_is, Revival, retried_is}
+use Rattle.lawful_events.proofs.Written.{applied_is, deleted_is, Approval, approved_is, readied_is, Revival, retried_is, catalog_is}
 
 -- what is kept of whatever stands at a key
 pub record Keeps (key : Key) (before now : Option Object) : Type 0 where
@@ -58,7 +61,7 @@ kept_alike key object = record {
   state = λ x is. same_state (subscription_at key object) x is;
   plan = λ new is. (new, is, inl refl);
   resolution = λ old is. (old, is, record { number = refl; basis = refl; outcome = refl; certificate = refl });
-  catalog = λ c is. refl;
+  catalog = λ c is. inl refl;
 }
 
 -- ---- apply
@@ -151,27 +154,41 @@ revival_keeps namespace old seen new r =
       catalog = λ c is. absurd (none_is_some c is);
     })
 
+-- ---- catalog
+
+catalog_keeps : (namespace name : List ℕ) (old : Option Object) (text : List ℕ) (priority : ℤ) (seen : ℕ) → IsValid text → Keeps (catalog_key namespace name) old (Some (new_catalog text priority seen))
+catalog_keeps namespace name old text priority seen valid = record {
+  phase = λ x is. absurd (none_is_some x is);
+  state = λ x is. absurd (none_is_some x is);
+  plan = λ q is. absurd (none_is_some q is);
+  resolution = λ r is. absurd (none_is_some r is);
+  catalog = λ c is. inr valid;
+}
+
 -- ---- each event
 
-pub kept_here : (h : History) (cause : Event) (w : Write) → Asks h cause (Ok w) → Keeps w.key (slot h w.key).object w.object
-kept_here h (event.Apply body) w asks =
+pub kept_here : (files : Option (List (List ℕ × List ℕ))) (h : History) (cause : Event) (w : Write) → Asks files h cause (Ok w) → Keeps w.key (slot h w.key).object w.object
+kept_here files h (event.Apply body) w asks =
     let is = applied_is h body w asks in
     subst (λ (x : Write). Keeps x.key (slot h x.key).object x.object) is.write (applied_keeps body is.key (slot h is.key).object (position h) is.new is.free is.fresh)
-kept_here h (event.Delete group kind namespace name) w asks =
+kept_here files h (event.Delete group kind namespace name) w asks =
     let key : Key = record { group = group; kind = kind; namespace = namespace; name = name } in
     let is = deleted_is h key w asks in
     subst (λ (x : Write). Keeps x.key (slot h x.key).object x.object) is.1 (removed_keeps key (slot h key).object is.0)
-kept_here h (event.Approve namespace name) w asks =
+kept_here files h (event.Approve namespace name) w asks =
     let is = approved_is h namespace name w asks in
     subst (λ (x : Write). Keeps x.key (slot h x.key).object x.object) is.write (approval_keeps namespace name (slot h (plan_key namespace name)).object (position h) is.new is.approval)
-kept_here h (event.Catalog namespace name path priority) w asks = absurd asks
-kept_here h (event.Ready namespace name state) w asks =
+kept_here files h (event.Catalog namespace name path priority) w asks =
+    let is = catalog_is files h namespace name path priority w asks in
+    let valid = writes_valid files h (event.Catalog namespace name path priority) w asks (new_catalog is.text is.priority (position h)) (record { priority = is.priority }) (ap (λ (x : Write). x.object) (sym is.write)) refl in
+    subst (λ (x : Write). Keeps x.key (slot h x.key).object x.object) is.write (catalog_keeps namespace name (slot h (catalog_key namespace name)).object is.text is.priority (position h) valid)
+kept_here files h (event.Ready namespace name state) w asks =
     let is = readied_is h namespace name state w asks in
     subst (λ (x : Write). Keeps x.key (slot h x.key).object x.object) is.1 (ready_keeps namespace name (slot h (deployment_key namespace name)).object is.0.body state is.0.owner (position h))
-kept_here h (event.Retry namespace budget) w asks =
+kept_here files h (event.Retry namespace budget) w asks =
     let is = retried_is h namespace budget w asks in
     subst (λ (x : Write). Keeps x.key (slot h x.key).object x.object) is.write (revival_keeps namespace (slot h (resolution_key namespace)).object (position h) is.new is.revival)
-kept_here h event.Restart w asks = absurd asks
+kept_here files h event.Restart w asks = absurd asks
 
 -- a write changes the slot of its key, and no other
 pub kept_everywhere : (h : History) (w : Write) → Keeps w.key (slot h w.key).object w.object → (key : Key) → Keeps key (slot h key).object (slot (After w h) key).object
@@ -180,5 +197,5 @@ kept_everywhere h w here key = elim (same_or_other w h key) [
   | inr is ↦ subst (λ (s : Slot). Keeps key (slot h key).object s.object) (sym is.1) (kept_alike key (slot h key).object)
 ]
 
-pub kept : (h : History) (cause : Event) (w : Write) → Asks h cause (Ok w) → (key : Key) → Keeps key (slot h key).object (slot (After w h) key).object
-kept h cause w asks = kept_everywhere h w (kept_here h cause w asks)
+pub kept : (files : Option (List (List ℕ × List ℕ))) (h : History) (cause : Event) (w : Write) → Asks files h cause (Ok w) → (key : Key) → Keeps key (slot h key).object (slot (After w h) key).object
+kept files h cause w asks = kept_everywhere h w (kept_here files h cause w asks)

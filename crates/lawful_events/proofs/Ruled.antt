@@ -1,4 +1,5 @@
 -- Each write keeps the rules of users.
+use Rattle.std.specs.Prelude.{ℤ}
 use Rattle.std.proofs.Common.{◌≡◌, true, false, List, ℕ, Option, Some, None, Ok, refl, sym, ap, ◌∙◌, subst, inl, inr}
 use Rattle.cluster_objects.specs.Kinds.{is_catalog_key, is_plan_key, is_resolution_key}
 use Rattle.cluster_objects.specs.declared.keys.Key.{Key}
@@ -11,9 +12,11 @@ use Rattle.cluster_history.specs.History.{History, position, slot}
 use Rattle.event_script.specs.declared.events.Event.{Event}
 use Rattle.event_script.specs.declared.events.Event.TheVariants as event
 use Rattle.object_bodies.specs.Heads.{is_forbidden}
-use Rattle.user_events.specs.Places.{plan_key, deployment_key, resolution_key}
-use Rattle.user_events.specs.Wishes.{applied, written}
-use Rattle.lawful_events.specs.Asks.{Asks}
+use Rattle.user_events.specs.Places.{catalog_key, plan_key, deployment_key, resolution_key}
+use Rattle.user_events.specs.Wishes.{applied, new_catalog, written}
+use Rattle.folder_events.specs.Events.{Asks}
+use Rattle.folder_events.specs.Laws.{IsValid}
+use Rattle.folder_events.proofs.Written.{writes_valid}
 use Rattle.lawful_events.specs.Rules.{KeepsRules}
 use Rattle.lawful_events.proofs.Chains.{none_is_some, none_of, some_is, true_or_false}
 use Rattle.lawful_events.proofs.Written.{write_at, applied_is, deleted_is, approved_is, readied_is, retried_is}
@@ -48,7 +51,7 @@ removed_rules h group kind namespace name key free = record {
   removal = λ is. refl;
   resolution = λ is. absurd (true_or_false (is_resolution_key key) is free);
   plan = λ is. inl refl;
-  catalog = λ is. refl;
+  catalog = λ is. inl refl;
 }
 
 approval_rules : (h : History) (namespace name body : List ℕ) (new : Status) (owner : Option (List ℕ)) → KeepsRules h (event.Approve namespace name) (write_at h (plan_key namespace name) (Some (written body new owner (position h))))
@@ -87,27 +90,44 @@ retry_rules h namespace budget body new owner = record {
   catalog = λ is. absurd (true_or_false (is_catalog_key (resolution_key namespace)) is refl);
 }
 
-pub ruled : (h : History) (cause : Event) (w : Write) → Asks h cause (Ok w) → KeepsRules h cause w
-ruled h (event.Apply body) w asks =
+catalog_rules : (h : History) (namespace name path : List ℕ) (priority : Option ℤ) (text : List ℕ) (given : ℤ) → IsValid text
+    → KeepsRules h (event.Catalog namespace name path priority) (write_at h (catalog_key namespace name) (Some (new_catalog text given (position h))))
+catalog_rules h namespace name path priority text given valid = record {
+  by = refl;
+  expect = refl;
+  stamp = refl;
+  seen = λ object is. seen_of text (status.Catalog (record { priority = given })) None (position h) object is;
+  removal = λ is. absurd (some_is_none (new_catalog text given (position h)) is);
+  resolution = λ is. absurd (true_or_false (is_resolution_key (catalog_key namespace name)) is refl);
+  plan = λ is. absurd (true_or_false (is_plan_key (catalog_key namespace name)) is refl);
+  catalog = λ is. inr (refl, (new_catalog text given (position h), refl, valid));
+}
+
+pub ruled : (files : Option (List (List ℕ × List ℕ))) (h : History) (cause : Event) (w : Write) → Asks files h cause (Ok w) → KeepsRules h cause w
+ruled files h (event.Apply body) w asks =
     let is = applied_is h body w asks in
     let object = applied body is.new is.key (slot h is.key).object (position h) in
     subst (λ (x : Write). KeepsRules h (event.Apply body) x) is.write (applied_rules h body body is.key object.status object.owner is.free)
-ruled h (event.Delete group kind namespace name) w asks =
+ruled files h (event.Delete group kind namespace name) w asks =
     let key : Key = record { group = group; kind = kind; namespace = namespace; name = name } in
     let is = deleted_is h key w asks in
     subst (λ (x : Write). KeepsRules h (event.Delete group kind namespace name) x) is.1 (removed_rules h group kind namespace name key is.0)
-ruled h (event.Approve namespace name) w asks =
+ruled files h (event.Approve namespace name) w asks =
     let is = approved_is h namespace name w asks in
     let a = is.approval in
     subst (λ (x : Write). KeepsRules h (event.Approve namespace name) x) (ap (λ (o : Option Object). write_at h (plan_key namespace name) o) a.made ∙ is.write)
     (approval_rules h namespace name a.object.body (status.Plan (record a.plan { approved = true })) a.object.owner)
-ruled h (event.Catalog namespace name path priority) w asks = absurd asks
-ruled h (event.Ready namespace name state) w asks =
+ruled files h (event.Catalog namespace name path priority) w asks =
+    let is = catalog_is files h namespace name path priority w asks in
+    let valid = writes_valid files h (event.Catalog namespace name path priority) w asks (new_catalog is.text is.priority (position h)) (record { priority = is.priority }) (ap (λ (x : Write). x.object) (sym is.write)) refl in
+    subst (λ (x : Write). KeepsRules h (event.Catalog namespace name path priority) x) is.write
+    (catalog_rules h namespace name path priority is.text is.priority valid)
+ruled files h (event.Ready namespace name state) w asks =
     let is = readied_is h namespace name state w asks in
     subst (λ (x : Write). KeepsRules h (event.Ready namespace name state) x) is.1 (ready_rules h namespace name is.0.body state (status.Deployment state) is.0.owner)
-ruled h (event.Retry namespace budget) w asks =
+ruled files h (event.Retry namespace budget) w asks =
     let is = retried_is h namespace budget w asks in
     let r = is.revival in
     subst (λ (x : Write). KeepsRules h (event.Retry namespace budget) x) (ap (λ (o : Object). write_at h (resolution_key namespace) (Some o)) r.made ∙ is.write)
     (retry_rules h namespace budget r.body (status.Resolution r.decision) r.owner)
-ruled h event.Restart w asks = absurd asks
+ruled files h event.Restart w asks = absurd asks

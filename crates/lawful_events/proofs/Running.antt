@@ -1,76 +1,127 @@
--- What answers leave, and runs of events.
-use Rattle.std.proofs.Common.{◌≡◌, ◌+◌, Bool, false, cond, List, [], ◌∷◌, ℕ, Ok, refl, sym, ap, ◌∙◌, subst, arith, inl, inr}
-use Rattle.std.proofs.lemmas.List.Sums.{sum_by-cons}
+-- What runs of events leave.
+use Rattle.std.proofs.Common.{◌≡◌, Bool, true, List, [], ◌∷◌, ◌++◌, ℕ, Option, Some, None, Result, Ok, Err, refl, sym, ap, ◌∙◌, subst, All}
+use Rattle.std.specs.List.{AllByRecursion}
+use Rattle.std.proofs.lemmas.List.Elements.{All-from_recursion, recursion_from_All}
 use Rattle.cluster_objects.specs.declared.objects.Write.{Write}
 use Rattle.cluster_history.specs.History.{History, After, after_all}
 use Rattle.event_script.specs.Ranges.{IsInRange}
 use Rattle.event_script.specs.declared.events.Event.{Event}
+use Rattle.event_script.specs.declared.events.Event.TheVariants as event
+use Rattle.fbc_read.specs.Bodies.{IsBody, ReadsAs, input_limit}
+use Rattle.fbc_read.specs.declared.bodies.BodyFault.{BodyFault}
 use Rattle.lawful_history.specs.Sound.{IsLawful}
-use Rattle.user_events.specs.Answers.{Answers, store_failed}
-use Rattle.user_events.specs.declared.answers.UserAnswer.{UserAnswer}
-use Rattle.user_events.specs.declared.answers.UserAnswer.TheVariants as answer
-use Rattle.lawful_events.specs.Asks.{Asks}
-use Rattle.lawful_events.specs.Runs.{Step, Runs, AreUsersWrites, GoesOnBy, is_done, done, lost}
+use Rattle.user_events.specs.declared.refusals.Refusal.{Refusal}
+use Rattle.folder_events.specs.Events.{Asks}
+use Rattle.event_runs.specs.Runs as run
+use Rattle.event_runs.specs.declared.halts.Halt.{Halt}
+use Rattle.event_runs.specs.declared.halts.Halt.TheVariants as halt
+use Rattle.lawful_events.specs.Asks.{IsUsersWrite}
+use Rattle.lawful_events.specs.Runs.{AreUsersWrites, GoesOn, Accepts}
 use Rattle.lawful_events.proofs.Allowed.{stays_lawful}
 
--- one if the test says so
-abbrev pub one_if : Bool → ℕ
-one_if b = cond b 1 0
+-- What a folder that tells asks for, some files ask for.
+read_somehow : (files : List (List ℕ × List ℕ)) → AllByRecursion (ReadsAs None) files
+read_somehow [] = tt
+read_somehow (file ∷ files) = (tt, read_somehow files)
 
--- The history is the old one, or has one write more that the event asks for.
-pub data Leaves (h : History) (cause : Event) (new : History) (given : UserAnswer) : Type 0 where
-  Nothing : new ≡ h → is_done given ≡ false → Leaves h cause new given
-  One : (w : Write) → Asks h cause (Ok w) → new ≡ After w h → one_if (is_done given) + one_if (store_failed given) ≡ 1 → Leaves h cause new given
+some_body : (files : run.Files) (path : List ℕ) (body : Result (List ℕ) BodyFault) → IsBody files path input_limit body → IsBody None path input_limit body
+some_body None path body is = is
+some_body (Some told) path body (listed, is_listed, is) =
+    let below = is_listed.paths in
+    (listed, record { paths = (below.0, tt, below.2); bytes = All-from_recursion (ReadsAs None) listed (read_somehow listed) }, is)
 
-pub leaves : (fits : History → Write → Bool) (limit : ℕ) (h : History) (cause : Event) (new : History) (given : UserAnswer) → Answers fits limit h (Asks h cause) new given → Leaves h cause new given
-leaves fits limit h cause new (answer.Done key version) is = One is.0 is.1.0 is.1.2 refl
-leaves fits limit h cause new (answer.Refused reason) is = Nothing is.1 refl
-leaves fits limit h cause new answer.Full is = Nothing is.3 refl
-leaves fits limit h cause new answer.StoreFailed (inl is) = Nothing is refl
-leaves fits limit h cause new answer.StoreFailed (inr is) = One is.0 is.1.0 is.1.2 refl
-leaves fits limit h cause new answer.FolderFailed is = Nothing is refl
-leaves fits limit h cause new answer.Memory is = Nothing is refl
+some_asks : (files : run.Files) (h : History) (e : Event) (asked : Result Write Refusal) → Asks files h e asked → Asks None h e asked
+some_asks files h (event.Apply body) asked is = is
+some_asks files h (event.Delete group kind namespace name) asked is = is
+some_asks files h (event.Approve namespace name) asked is = is
+some_asks files h (event.Catalog namespace name path priority) asked (body, holds, is) = (body, some_body files path body holds, is)
+some_asks files h (event.Ready namespace name state) asked is = is
+some_asks files h (event.Retry namespace budget) asked is = is
+some_asks files h event.Restart asked is = is
 
-lawful_by : (is_valid : List ℕ → Bool) (h : History) (cause : Event) (new : History) (given : UserAnswer) → IsLawful is_valid h → Leaves h cause new given → IsLawful is_valid new
-lawful_by is_valid h cause new given lawful (Nothing same not_done) = subst (λ (x : History). IsLawful is_valid x) (sym same) lawful
-lawful_by is_valid h cause new given lawful (One w asks made sum) = subst (λ (x : History). IsLawful is_valid x) (sym made) (stays_lawful is_valid h cause w asks lawful)
+-- ---- one event: the history stays, or goes on by one write
 
-pub answers_lawful : (is_valid : List ℕ → Bool) (fits : History → Write → Bool) (limit : ℕ) (h : History) (cause : Event) (new : History) (given : UserAnswer)
-    → IsLawful is_valid h → Answers fits limit h (Asks h cause) new given → IsLawful is_valid new
-answers_lawful is_valid fits limit h cause new given lawful is = lawful_by is_valid h cause new given lawful (leaves fits limit h cause new given is)
+pub data GoesBy (h : History) : History → Type 0 where
+  Stays : GoesBy h h
+  Goes : (w : Write) → IsUsersWrite h w → GoesBy h (After w h)
 
-pub runs_lawful : (is_valid : List ℕ → Bool) (fits : History → Write → Bool) (limit : ℕ) (old : History) (steps : List Step) (new : History)
-    → IsLawful is_valid old → Runs fits limit old steps new → IsLawful is_valid new
-runs_lawful is_valid fits limit old [] new lawful same = subst (λ (x : History). IsLawful is_valid x) (sym same) lawful
-runs_lawful is_valid fits limit old (step ∷ steps) new lawful run =
-    runs_lawful is_valid fits limit run.0 steps new (answers_lawful is_valid fits limit old step.0 run.0 step.1 lawful run.2) run.3
+asked_write : (files : run.Files) (h : History) (e : Event) (w : Write) → IsInRange e → Asks files h e (Ok w) → IsUsersWrite h w
+asked_write files h e w ranges asks = (e, ranges, some_asks files h e (Ok w) asks)
 
--- how the counts go on
-done_more : (step : Step) (steps : List Step) → done (step ∷ steps) ≡ one_if (is_done step.1) + done steps
-done_more step steps = sum_by-cons (λ (s : Step). one_if (is_done s.1)) step steps
+module _ (fits : History → Write → Bool) (limit : ℕ) (files : run.Files) where
+  reopened : (h new : History) → new ≡ h → GoesBy h new
+  reopened h new same = subst (GoesBy h) (sym same) Stays
 
-lost_more : (step : Step) (steps : List Step) → lost (step ∷ steps) ≡ one_if (store_failed step.1) + lost steps
-lost_more step steps = sum_by-cons (λ (s : Step). one_if (store_failed s.1)) step steps
+  passed : (h new : History) (e : Event) (line : List ℕ) → IsInRange e → run.Passes true fits limit files h e new line → GoesBy h new
+  passed h _ e _ ranges (run.Written _ w asks room) = Goes w (asked_write files h e w ranges asks)
+  passed h _ e _ ranges (run.Refused _ reason asks) = Stays
+  passed h new _ _ ranges (run.Restarted _ same) = reopened h new (same refl)
 
-more : (step : Step) (steps : List Step) (old between new : History) → IsInRange step.0 → Leaves old step.0 between step.1 → GoesOnBy steps between new → GoesOnBy (step ∷ steps) old new
-more step steps old between new ranges (Nothing same not_done) rest =
-    record {
-      writes = rest.writes;
-      users = subst (λ (x : History). AreUsersWrites x rest.writes) same rest.users;
-      extends = rest.extends ∙ ap (λ (x : History). after_all x rest.writes) same;
-      least = omega (arith, ap one_if not_done, done_more step steps, rest.least);
-      most = omega (arith, done_more step steps, lost_more step steps, rest.most);
-    }
-more step steps old between new ranges (One w asks made sum) rest =
-    record {
-      writes = w ∷ rest.writes;
-      users = ((step.0, ranges, asks), subst (λ (x : History). AreUsersWrites x rest.writes) made rest.users);
-      extends = rest.extends ∙ ap (λ (x : History). after_all x rest.writes) made;
-      least = omega (arith, sum, done_more step steps, rest.least);
-      most = omega (arith, sum, done_more step steps, lost_more step steps, rest.most);
-    }
+  left_so : (h new : History) (e : Event) → IsInRange e → run.MayLeave true fits limit files h e new → GoesBy h new
+  left_so h _ e ranges (run.Nothing _) = Stays
+  left_so h _ e ranges (run.Wrote _ w asks room) = Goes w (asked_write files h e w ranges asks)
+  left_so h new _ ranges (run.Reopened _ same) = reopened h new (same refl)
 
-pub runs_go_on : (fits : History → Write → Bool) (limit : ℕ) (old : History) (steps : List Step) (new : History) → Runs fits limit old steps new → GoesOnBy steps old new
-runs_go_on fits limit old [] new same = record { writes = []; users = tt; extends = same; least = omega arith; most = omega arith }
-runs_go_on fits limit old (step ∷ steps) new run =
-    more step steps old run.0 new run.1 (leaves fits limit old step.0 run.0 step.1 run.2) (runs_go_on fits limit run.0 steps new run.3)
+  halted : (h new : History) (e : Event) (before now : Option (List ℕ)) (end : Halt) → IsInRange e → run.Halts true fits limit files h e new before now end → GoesBy h new
+  halted h new e before now halt.OutputFailed ranges (line, passes, puts) = passed h new e line ranges passes
+  halted h new e before now halt.FolderFailed ranges (folder, same, puts) = reopened h new same
+  halted h new e before now halt.StoreFailed ranges (key, may, puts) = left_so h new e ranges may
+  halted h new e before now (halt.Damaged at) ranges (untold, restart, puts) = absurd (cc)
+  halted h new e before now halt.Full ranges (w, asks, room, same, puts) = reopened h new same
+  halted h new e before now halt.Memory ranges (may, puts) = left_so h new e ranges may
+
+  -- ---- all events
+
+  nothing_more : (h : History) → GoesOn h h
+  nothing_more h = record { writes = []; users = tt; extends = refl }
+
+  goes_first : (h mid new : History) → GoesBy h mid → GoesOn mid new → GoesOn h new
+  goes_first h _ new Stays rest = rest
+  goes_first h _ new (Goes w users) rest = record { writes = w ∷ rest.writes; users = (users, rest.users); extends = rest.extends }
+
+  goes_on : (h mid new : History) → GoesOn h mid → GoesOn mid new → GoesOn h new
+  goes_on h mid new first rest = record {
+    writes = first.writes ++ rest.writes;
+    users = both h first.writes (subst (λ (x : History). AreUsersWrites x rest.writes) first.extends rest.users) first.users;
+    extends = rest.extends ∙ ap (λ (x : History). after_all x rest.writes) first.extends ∙ sym (after_both h first.writes);
+  }
+    where
+      both : (h : History) (ws : List Write) → AreUsersWrites (after_all h ws) rest.writes → AreUsersWrites h ws → AreUsersWrites h (ws ++ rest.writes)
+      both h [] more users = more
+      both h (w ∷ ws) more users = (users.0, both (After w h) ws more users.1)
+
+      after_both : (h : History) (ws : List Write) → after_all h (ws ++ rest.writes) ≡ after_all (after_all h ws) rest.writes
+      after_both h [] = refl
+      after_both h (w ∷ ws) = after_both (After w h) ws
+
+  all_go : (h new : History) (es : List Event) (lines : List ℕ) → AllByRecursion IsInRange es → run.AllPass true fits limit files h es new lines → GoesOn h new
+  all_go h _ [] _ ranges (run.NoEvents _) = nothing_more h
+  all_go h new (e ∷ es) _ ranges (run.Next _ mid _ _ _ line lines passes all) =
+      goes_first h mid new (passed h mid e line ranges.0 passes) (all_go mid new es lines ranges.1 all)
+
+  -- those before one, and that one
+  ranges_of : (earlier : List Event) (e : Event) (later : List Event) → AllByRecursion IsInRange (earlier ++ e ∷ later) → AllByRecursion IsInRange earlier × IsInRange e
+  ranges_of [] e later ranges = (tt, ranges.0)
+  ranges_of (first ∷ earlier) e later ranges =
+      let rest = ranges_of earlier e later ranges.1 in
+      ((ranges.0, rest.0), rest.1)
+
+  ends : (h new : History) (es : List Event) (before now : Option (List ℕ)) (result : Result Unit Halt) → AllByRecursion IsInRange es → run.Runs true fits limit files h es new before now result → GoesOn h new
+  ends h new es before now (Ok done) ranges (lines, all, puts) = all_go h new es lines ranges all
+  ends h new es before now (Err end) ranges halts =
+      let r = ranges_of halts.earlier halts.at halts.later (subst (AllByRecursion IsInRange) halts.split ranges) in
+      goes_on h halts.mid new (all_go h halts.mid halts.earlier halts.lines r.0 halts.passed)
+      (goes_first halts.mid new new (halted halts.mid new halts.at halts.between now end r.1 halts.halted) (nothing_more new))
+
+  pub runs_go_on : (h new : History) (es : List Event) (before now : Option (List ℕ)) (result : Result Unit Halt) → All IsInRange es → run.Runs true fits limit files h es new before now result → GoesOn h new
+  runs_go_on h new es before now result ranges is = ends h new es before now result (recursion_from_All IsInRange es ranges) is
+
+-- a history stays lawful by users' writes
+writes_lawful : (is_valid : List ℕ → Bool) (accepts : Accepts is_valid) (h : History) (ws : List Write) → AreUsersWrites h ws → IsLawful is_valid h → IsLawful is_valid (after_all h ws)
+writes_lawful is_valid accepts h [] users lawful = lawful
+writes_lawful is_valid accepts h (w ∷ ws) users lawful =
+    writes_lawful is_valid accepts (After w h) ws users.1 (stays_lawful is_valid accepts None h users.0.0 w users.0.2 lawful)
+
+pub goes_on_lawful : (is_valid : List ℕ → Bool) (accepts : Accepts is_valid) (old new : History) → GoesOn old new → IsLawful is_valid old → IsLawful is_valid new
+goes_on_lawful is_valid accepts old new goes lawful =
+    subst (λ (x : History). IsLawful is_valid x) (sym goes.extends) (writes_lawful is_valid accepts old goes.writes goes.users lawful)

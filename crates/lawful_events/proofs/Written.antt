@@ -1,5 +1,6 @@
 -- The write of each event, where it asks for one.
 use Rattle.std.proofs.Common.{◌≡◌, Bool, true, false, cond, List, [], ℕ, Option, Some, None, Result, Ok, Err, refl, sym, ap, ◌∙◌, subst, codes}
+use Rattle.std.specs.Prelude.{ℤ, pos}
 use Rattle.std.specs.Option.{unwrap_or}
 use Rattle.cluster_objects.specs.Kinds.{as_plan, is_plan_key, is_resolution_key, plan_at, deployment_at, resolution_at}
 use Rattle.cluster_objects.specs.declared.keys.Key.{Key}
@@ -17,13 +18,16 @@ use Rattle.object_bodies.specs.Laws.{IsNewAt}
 use Rattle.object_bodies.specs.declared.faults.ObjectFault.{ObjectFault}
 use Rattle.object_bodies.proofs.Whole.{objects_are_new}
 use Rattle.user_events.specs.Asked.{user_write, asked_at, apply_wish, apply, delete, approve, ready, retry}
-use Rattle.user_events.specs.Places.{plan_key, deployment_key, resolution_key}
+use Rattle.user_events.specs.Asked as user
+use Rattle.user_events.specs.Places.{catalog_key, plan_key, deployment_key, resolution_key}
 use Rattle.user_events.specs.Reasons.{refused}
-use Rattle.user_events.specs.Wishes.{with_status, applied, removed, deleted, is_waiting, approved_plan, approved, made_ready, readied, first_resolution, tried_again, retried, written}
+use Rattle.user_events.specs.Wishes.{with_status, applied, removed, deleted, is_waiting, approved_plan, approved, made_ready, readied, first_resolution, tried_again, retried, written, new_catalog}
 use Rattle.user_events.specs.declared.refusals.Refusal.{Refusal}
 use Rattle.user_events.specs.declared.wishes.Wish.{Wish}
 use Rattle.user_events.specs.declared.wishes.Wish.TheVariants as wishes
 use Rattle.user_events.proofs.Chains.{ok_is, then_ok}
+use Rattle.fbc_read.specs.declared.bodies.BodyFault.{BodyFault}
+use Rattle.folder_events.specs.Catalogs.{AsksCatalog, catalog_after, valid_text}
 use Rattle.lawful_events.specs.Keeps.{IsSameDecision}
 use Rattle.lawful_events.proofs.Chains.{counts, none_is_some, some_is}
 
@@ -184,3 +188,21 @@ pub retried_is : (h : History) (namespace : List ℕ) (budget : Option ℕ) (w :
 retried_is h namespace budget w e =
     let key = resolution_key namespace in
     record { new = retried budget key (slot h key).object (position h); revival = revival_of budget key (slot h key).object (position h); write = ok_is _ _ e }
+
+-- ---- catalog
+
+-- a catalog that is written: its text is valid
+pub record IsCatalog (h : History) (namespace name : List ℕ) (w : Write) : Type 0 where
+  pub text : List ℕ
+  pub priority : ℤ
+  pub write : write_at h (catalog_key namespace name) (Some (new_catalog text priority (position h))) ≡ w
+
+by_body : (h : History) (namespace name : List ℕ) (priority : Option ℤ) (w : Write) (body : Result (List ℕ) BodyFault) → catalog_after h namespace name priority body ≡ Ok w → IsCatalog h namespace name w
+by_body h namespace name priority w (Ok text) e =
+    let p = unwrap_or priority (pos 0) in
+    let found = then_ok (valid_text text) (λ text. user.catalog h namespace name text p) w e in
+    record { text = found.0; priority = p; write = ok_is _ _ found.2 }
+by_body h namespace name priority w (Err fault) e = absurd cc
+
+pub catalog_is : (files : Option (List (List ℕ × List ℕ))) (h : History) (namespace name path : List ℕ) (priority : Option ℤ) (w : Write) → AsksCatalog files h namespace name path priority (Ok w) → IsCatalog h namespace name w
+catalog_is files h namespace name path priority w (body, holds, e) = by_body h namespace name priority w body e

@@ -6,7 +6,9 @@ use Rattle.cluster_objects.specs.declared.objects.Object.{Object}
 use Rattle.cluster_objects.specs.declared.plans.PlanStatus.{PlanStatus}
 use Rattle.cluster_objects.specs.declared.resolutions.ResolutionStatus.{ResolutionStatus}
 use Rattle.cluster_objects.specs.declared.statuses.CatalogStatus.{CatalogStatus}
+use Rattle.lawful_history.specs.Lawful.{body_of}
 use Rattle.user_events.specs.Wishes.{is_waiting}
+use Rattle.folder_events.specs.Laws.{IsValid}
 
 -- The plan waited for its approval, and has it now.
 abbrev pub GetsApproved : PlanStatus → PlanStatus → Type 0
@@ -31,6 +33,6 @@ KeepsResolution key before now =
     (old : ResolutionStatus) → resolution_at key before ≡ Some old
     → (new : ResolutionStatus) × (resolution_at key now ≡ Some new) × IsSameDecision old new
 
--- A catalog stands there only where it stood there before, as it was.
+-- A catalog stands there only where it stood there before, as it was, or its body is a valid catalog.
 abbrev pub KeepsCatalog : Key → Option Object → Option Object → Type 0
-KeepsCatalog key before now = (catalog : CatalogStatus) → catalog_at key now ≡ Some catalog → now ≡ before
+KeepsCatalog key before now = (catalog : CatalogStatus) → catalog_at key now ≡ Some catalog → (now ≡ before) ⊎ IsValid (body_of now)

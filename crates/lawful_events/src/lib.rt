@@ -1,14 +1,14 @@
 //! What stays lawful under the events of a user: whatever they write is by the rules, and a lawful history stays so.
 //!
-//! The definitions stand in `specs/`: what an event asks for and which writes are a user's (`Asks`), the rules that
-//! such a write keeps (`Rules`), what it leaves of plans, resolutions and catalogs (`Keeps`), and what comes of a list
-//! of events (`Runs`). The functions here have empty bodies: their contracts are the laws.
+//! The definitions stand in `specs/`: which writes are a user's (`Asks`), the rules that
+//! such a write keeps (`Rules`), what it leaves of plans, resolutions and catalogs (`Keeps`), and what a run of
+//! events leaves (`Runs`). The functions here have empty bodies: their contracts are the laws.
 #![tactic(auto)]
 
 mod laws;
 
 pub use laws::{
-    answers_stay_lawful, applied_objects_are_neutral, catalogs_stay, histories_stay_lawful,
-    phases_stay, plans_are_only_approved, resolutions_stay, runs_stay_lawful,
-    users_writes_are_allowed, users_writes_keep_the_rules,
+    applied_objects_are_neutral, catalogs_stay, histories_stay_lawful, phases_stay,
+    plans_are_only_approved, resolutions_stay, runs_stay_lawful, users_writes_are_allowed,
+    users_writes_keep_the_rules,
 };

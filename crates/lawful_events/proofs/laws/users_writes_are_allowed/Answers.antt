@@ -1,5 +1,6 @@
+use Rattle.std.proofs.Common.{None}
 use Rattle.lawful_events.proofs.Allowed.{allowed}
 use Rattle.lawful_events.proofs.laws.users_writes_are_allowed.Goals as goal
 
 pub returns : goal.returns
-returns c is_valid h w users = allowed is_valid h users.0 w users.2
+returns c is_valid accepts h w users = allowed is_valid accepts None h users.0 w users.2

@@ -2,4 +2,4 @@ use Rattle.lawful_events.proofs.Ruled.{ruled}
 use Rattle.lawful_events.proofs.laws.users_writes_keep_the_rules.Goals as goal
 
 pub returns : goal.returns
-returns c h cause w asks = ruled h cause w asks
+returns c files h cause w asks = ruled files h cause w asks

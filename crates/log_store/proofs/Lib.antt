@@ -1,0 +1,4 @@
+pub mod Keeping
+pub mod Opening
+pub mod Places
+pub mod Putting

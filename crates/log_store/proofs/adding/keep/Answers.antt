@@ -1,0 +1,21 @@
+use Rattle.std.proofs.Common.{ℕ, List, refl, sym, ap, ◌∙◌}
+use Rattle.cluster_objects.specs.declared.objects.Write.{Write}
+use Rattle.log_store.proofs.Keeping.{log_done, within_file}
+use Rattle.log_store.proofs.adding.keep.Goals as goal
+
+pub add_record-requires-clause-within : goal.add_record-requires-clause-within
+add_record-requires-clause-within g c =
+    within_file (g.D.Disk.tells c.args.disk.now) (g.D.Disk.content c.args.disk.now) (g.D.Disk.pending c.args.disk.now) c.args.store.now.1 c.args.gate c.requires.log
+
+pub returns-in-Ok-add_record-clause-adds : goal.returns-in-Ok-add_record-clause-adds
+returns-in-Ok-add_record-clause-adds g c =
+    let log = c.requires.log in
+    let ws = c.args.store.now.1 in (
+      ap (λ (p : ℕ × List Write). p.1) c.in-Ok.ensures.done,
+      c.version_of.ensures ∙ c.in-Ok.ensures.version,
+      log_done (g.D.Disk.tells c.add_record.new.disk) (g.D.Disk.content c.add_record.new.disk) (g.D.Disk.pending c.add_record.new.disk)
+          ws c.args.write c.args.gate log.are_writes log.place c.requires.spelled c.requires.agrees
+          (λ told.
+          let before = sym c.add_record.ensures.tells ∙ told in
+          c.in-Ok-add_record.ensures.adds before ws c.args.write log.place c.requires.piece (log.settled before refl)),
+    )

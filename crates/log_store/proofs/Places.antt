@@ -58,11 +58,7 @@ has_room-no_place limit gate ws w at place = and_left (fits (history_after ws) w
 pub has_room-limit : (place : Bool) (limit : ℕ) (ws : List Write) → limit ≤ length ws → has_room place limit (history_after ws) ≡ false
 has_room-limit place limit ws over = and_right place (ltb (position (history_after ws)) limit) (le-ltb (position (history_after ws)) limit (omega (arith, position-kept ws, over)))
 
--- what has place behind a gate ends at the greatest length
-pub within_limit : (gate size : ℕ) → has_place gate size ≡ true → gate + 1 + size ≤ 2 ^ 40
-within_limit gate size e = leb-true (gate + 1 + size) (2 ^ 40) e
-
--- the same without a sum that could pass the end of its type
+-- the test of place, without a sum that could pass the end of its type
 pub place_test : (gate size limit : ℕ) → ltb size (limit - gate) ≡ leb (gate + 1 + size) limit
 place_test gate size limit = elim (cases_lt size (limit - gate)) [
   | inl lt ↦ lt-ltb size (limit - gate) lt ∙ sym (le-leb (gate + 1 + size) limit (omega (arith, lt)))

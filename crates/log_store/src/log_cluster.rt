@@ -4,7 +4,7 @@ ghost use Rattle.cluster_history.specs.History.{IsHistory};
 ghost use Rattle.cluster_file.specs.Files.{damage_in, history_in, record_form, stands};
 ghost use Rattle.cluster_file.specs.Writing.{history_after, piece};
 ghost use Rattle.olm_io.specs.Outside.{HasCause};
-ghost use Rattle.object_store.specs.Puts.{Agrees, Puts, Reopens, Snapshots, fault_failed, has_room, put_failed};
+ghost use Rattle.object_store.specs.Puts.{Agrees, IsSound, Puts, Reopens, Snapshots, fault_failed, has_room, put_failed};
 ghost use Rattle.log_store.specs.Adds.{PutsOn, is_refused};
 ghost use Rattle.log_store.specs.Starts.{disk_after, told};
 ghost use Rattle.log_store.specs.Store.{fits, has_place, store_history};
@@ -150,7 +150,7 @@ impl<D: Disk> Cluster for LogCluster<D> {
         }
     }
 
-    /// At a conflict and where it is full the store and its disk stay as they are.
+    /// At a conflict and where it is full the store and its disk stay as they are, and no call fails.
     fn put(&mut self, alloc: Global, write: Write) -> PutAnswer
         requires { self.old.ready ≡ true }
         ensures puts { let h = store_history (D.tells self.old.disk) (D.content self.old.disk) self.old.writes in Puts (has_room (fits h write) self.old.limit h) h write (store_history (D.tells self.new.disk) (D.content self.new.disk) self.new.writes) result }
@@ -159,6 +159,8 @@ impl<D: Disk> Cluster for LogCluster<D> {
         ensures cause { HasCause (D.faults self.old.disk) (D.faults self.new.disk) (put_failed result ≡ true) }
         ensures ready { self.new.ready ≡ not (put_failed result) }
         ensures untouched { is_refused result ≡ true → self.new ≡ self.old }
+        ensures tried { let h = store_history (D.tells self.old.disk) (D.content self.old.disk) self.old.writes in put_failed result ≡ true → Agrees h write × (has_room (fits h write) self.old.limit h ≡ true) }
+        ensures sound { IsSound (D.tells self.new.disk) self.new.ready (damage_in (D.content self.new.disk)) }
     {
         match prepared(alloc, &self.store, self.limit, self.gate, &write) {
             Ok(piece) => self.add(alloc, piece.as_slice(), write),

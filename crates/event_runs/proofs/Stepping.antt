@@ -79,7 +79,7 @@ module _ (tells : Bool) (fits : History → Write → Bool) (limit : ℕ) (files
 
   pub lost_steps : HasKey e → Answers fits limit h (Asks files h e) new answer.StoreFailed → Steps tells fits limit files h e new before before (Err halt.StoreFailed)
   lost_steps key (inl same) = (key, subst (MayLeave tells fits limit files h e) (sym same) (Nothing e), Appends-nil before)
-  lost_steps key (inr (w, asks, room, made)) = (key, subst (MayLeave tells fits limit files h e) (sym made) (Wrote e w asks room), Appends-nil before)
+  lost_steps key (inr (w, (asks, room, made))) = (key, subst (MayLeave tells fits limit files h e) (sym made) (Wrote e w asks room), Appends-nil before)
 
   pub folder_steps : is_of_folder e ≡ true → Answers fits limit h (Asks files h e) new answer.FolderFailed → Steps tells fits limit files h e new before before (Err halt.FolderFailed)
   folder_steps folder same = (folder, same, Appends-nil before)

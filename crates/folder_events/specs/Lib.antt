@@ -1,0 +1,4 @@
+pub mod Answers
+pub mod Catalogs
+pub mod Events
+pub mod Laws

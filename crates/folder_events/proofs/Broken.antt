@@ -1,5 +1,5 @@
 -- What checking a catalog tells of the rules that it breaks.
-use Rattle.std.proofs.Common.{◌≡◌, ◌≢◌, List, [], ◌∷◌, ℕ, Result, Ok, Err, refl, sym, subst}
+use Rattle.std.proofs.Common.{◌≡◌, ◌≢◌, List, [], ◌∷◌, ℕ, Ok, Err, refl}
 use Rattle.fbc_types.specs.declared.catalog.Catalog.{Catalog}
 use Rattle.fbc_types.specs.declared.fault.CheckFault.{CheckFault}
 use Rattle.fbc_check.specs.Checking.{by_faults}

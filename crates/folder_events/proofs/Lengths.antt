@@ -5,7 +5,7 @@ use Rattle.std.proofs.lemmas.Bool.{leb-true}
 use Rattle.catalog_stream.specs.declared.blobs.StreamFault.{StreamFault}
 use Rattle.object_bodies.proofs.Reading.{same_ok}
 use Rattle.olm_io.specs.declared.traits.FolderFault.TheVariants as folder
-use Rattle.fbc_read.specs.Bodies.{IsBody, body, first_split, is_refused, joined, json_files, lines, unless_refused, unless_split}
+use Rattle.fbc_read.specs.Bodies.{IsBody, first_split, is_refused, joined, json_files, lines, unless_refused, unless_split}
 use Rattle.fbc_read.specs.declared.bodies.BodyFault.{BodyFault}
 use Rattle.fbc_read.specs.declared.bodies.BodyFault.TheVariants.{Folder}
 

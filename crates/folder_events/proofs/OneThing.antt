@@ -3,13 +3,11 @@ use Rattle.std.proofs.Common.{◌≡◌, ℕ, List, Option, Some, Result, sym, a
 use Rattle.std.specs.Prelude.{ℤ}
 use Rattle.cluster_objects.specs.declared.objects.Write.{Write}
 use Rattle.cluster_history.specs.History.{History}
-use Rattle.event_script.specs.declared.events.Event.{Event}
 use Rattle.event_script.specs.declared.events.Event.TheVariants as event
 use Rattle.fbc_read.specs.Bodies.{input_limit}
 use Rattle.fbc_read.proofs.OneListing.{the_body}
 use Rattle.user_events.specs.declared.refusals.Refusal.{Refusal}
 use Rattle.folder_events.specs.Catalogs.{AsksCatalog, catalog_after}
-use Rattle.folder_events.specs.Events.{Asks}
 use Rattle.folder_events.specs.Laws.{AsksOneThing}
 
 one_catalog : (told : List (List ℕ × List ℕ)) (h : History) (namespace name path : List ℕ) (priority : Option ℤ) (asked other : Result Write Refusal)

@@ -11,7 +11,6 @@ use Rattle.cluster_objects.specs.declared.objects.Status.TheVariants as status
 use Rattle.cluster_objects.specs.declared.objects.Write.{Write}
 use Rattle.cluster_objects.specs.declared.statuses.CatalogStatus.{CatalogStatus}
 use Rattle.cluster_history.specs.History.{History, position}
-use Rattle.event_script.specs.declared.events.Event.{Event}
 use Rattle.event_script.specs.declared.events.Event.TheVariants as event
 use Rattle.fbc_types.specs.Rules.{broken}
 use Rattle.fbc_types.specs.declared.catalog.Catalog.{Catalog}
@@ -25,8 +24,7 @@ use Rattle.object_bodies.proofs.Reading.{read_then, same_ok}
 use Rattle.user_events.specs.Asked as user
 use Rattle.user_events.specs.Places.{deployment_key, plan_key, resolution_key}
 use Rattle.user_events.specs.Wishes.{new_catalog}
-use Rattle.folder_events.specs.Catalogs.{AsksCatalog, catalog_after, catalog_of, or_refusal, unless_broken, valid_text}
-use Rattle.folder_events.specs.Events.{Asks}
+use Rattle.folder_events.specs.Catalogs.{catalog_after, catalog_of, or_refusal, unless_broken, valid_text}
 use Rattle.folder_events.specs.Laws.{IsValid, WritesValidCatalogs}
 use Rattle.folder_events.proofs.Lengths.{body_within}
 use Rattle.folder_events.proofs.Others.{by_apply, by_delete, by_approve, by_ready, by_retry}

@@ -22,13 +22,14 @@ pub one_turn : (tells tells' : Bool) (fits : History → Write → Bool) (limit 
     → (lines : List ℕ) × AllPass tells fits limit files h done mid lines × Appends before between lines
     → (line : List ℕ) × Passes tells' fits limit' files' mid e new line × Appends between now line
     → (lines : List ℕ) × AllPass tells fits limit files h (done ++ e ∷ []) new lines × Appends before now lines
-one_turn tells tells' fits limit limit' files files' h mid new done e before between now t l f (lines, all, puts) (line, passes, more) =
-    (lines ++ line,
-      one_more tells fits limit files h mid new done e lines line all
+one_turn tells tells' fits limit limit' files files' h mid new done e before between now t l f (lines, all, puts) (line, passes, more) = (
+  lines ++ line,
+  one_more tells fits limit files h mid new done e lines line all
       (subst (λ b. Passes b fits limit files mid e new line) t
       (subst (λ n. Passes tells' fits n files mid e new line) l
       (subst (λ x. Passes tells' fits limit' x mid e new line) f passes))),
-      Appends-trans before between now lines line puts more)
+  Appends-trans before between now lines line puts more,
+)
 
 -- The run ends at an event, behind those that have gone by.
 pub ends_there : (tells tells' : Bool) (fits : History → Write → Bool) (limit limit' : ℕ) (files files' : Files) (h mid new : History) (es done later : List Event) (e : Event) (before between now : Option (List ℕ)) (end : Halt)

@@ -38,7 +38,10 @@ pub fn run_events<C: Cluster, F: Folder, O: Sink>(
     ensures output { HasCause (O.faults out.old) (O.faults out.new) (spec.output_failed result ≡ true) }
 {
     'events: for event in events {
-        run_event(alloc, event, cluster, folder, out)?;
+        match run_event(alloc, event, cluster, folder, out) {
+            Ok(()) => {}
+            Err(halt) => return Err(halt),
+        }
     }
     Ok(())
 }

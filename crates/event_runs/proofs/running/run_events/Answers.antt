@@ -21,7 +21,7 @@ events-init g c = record {
 pub events-preserved : goal.events-preserved
 events-preserved g c =
     let before = c.events.invariant in
-    let turn = c.in_ok-run_event.ensures in
+    let turn = c.in-Ok.ensures in
     let e = c.event-item.result in
     let i = c.events.event-index in
     let es = c.args.events.now in
@@ -32,10 +32,12 @@ events-preserved g c =
     (take i es) e (g.O.Sink.held c.args.out.now) (g.O.Sink.held c.events.out) (g.O.Sink.held new.out)
     before.tells before.limit before.same before.passed turn.steps in
     record {
-      passed = (passed.0,
+      passed = (
+        passed.0,
         subst (λ done. AllPass (g.C.Cluster.tells cluster) g.C.Cluster.fits (g.C.Cluster.limit cluster) (g.F.Folder.held c.args.folder.now) (g.C.Cluster.history cluster) done (g.C.Cluster.history new.cluster) passed.0)
-        (sym (taken_more es i e c.events-test.true c.event-item.is)) passed.1,
-        passed.2);
+            (sym (taken_more es i e c.events-test.true c.event-item.is)) passed.1,
+        passed.2,
+      );
       tells = turn.tells ∙ before.tells;
       limit = turn.limit ∙ before.limit;
       same = turn.same ∙ before.same;
@@ -46,18 +48,16 @@ events-preserved g c =
       output = omega (arith, before.output, turn.output.later);
     }
 
-pub returns-in_err-run_event-clause-runs : goal.returns-in_err-run_event-clause-runs
-returns-in_err-run_event-clause-runs g c =
+pub returns-in-Err-clause-runs : goal.returns-in-Err-clause-runs
+returns-in-Err-clause-runs g c =
     let before = c.events.invariant in
-    let turn = c.in_err-run_event.ensures in
+    let turn = c.in-Err.ensures in
     let e = c.event-item.result in
     let i = c.events.event-index in
     let es = c.args.events.now in
     let cluster = c.args.cluster.now in
     let new = c.run_event.new in
-    let ends = ends_there (g.C.Cluster.tells cluster) (g.C.Cluster.tells c.events.cluster) g.C.Cluster.fits (g.C.Cluster.limit cluster) (g.C.Cluster.limit c.events.cluster)
+    ends_there (g.C.Cluster.tells cluster) (g.C.Cluster.tells c.events.cluster) g.C.Cluster.fits (g.C.Cluster.limit cluster) (g.C.Cluster.limit c.events.cluster)
     (g.F.Folder.held c.args.folder.now) (g.F.Folder.held c.events.folder) (g.C.Cluster.history cluster) (g.C.Cluster.history c.events.cluster) (g.C.Cluster.history new.cluster)
-    es (take i es) (drop (suc i) es) e (g.O.Sink.held c.args.out.now) (g.O.Sink.held c.events.out) (g.O.Sink.held new.out) c.in_err-run_event.field-0.0
-    before.tells before.limit before.same (split_at es i e c.events-test.true c.event-item.is) before.passed turn.steps in
-    let f : ⊥ = c.from_residual.ensures in
-    ends
+    es (take i es) (drop (suc i) es) e (g.O.Sink.held c.args.out.now) (g.O.Sink.held c.events.out) (g.O.Sink.held new.out) c.in-Err.halt
+    before.tells before.limit before.same (split_at es i e c.events-test.true c.event-item.is) before.passed turn.steps

@@ -19,7 +19,7 @@ use Rattle.folder_events.specs.Laws.{IsValid}
 use Rattle.folder_events.proofs.Written.{writes_valid}
 use Rattle.lawful_events.specs.Rules.{KeepsRules}
 use Rattle.lawful_events.proofs.Chains.{none_is_some, none_of, some_is, true_or_false}
-use Rattle.lawful_events.proofs.Written.{write_at, applied_is, deleted_is, approved_is, readied_is, retried_is}
+use Rattle.lawful_events.proofs.Written.{write_at, applied_is, deleted_is, approved_is, readied_is, retried_is, catalog_is}
 
 -- what a user puts has the history's length
 seen_of : (body : List ℕ) (new : Status) (owner : Option (List ℕ)) (seen : ℕ) (object : Object) → ◌≡◌ {A = Option Object} (Some (written body new owner seen)) (Some object) → object.seen ≡ seen

@@ -13,7 +13,6 @@ pub fn there_is_one_question()
 }
 
 /// A view asks one question.
-#[tactic(auto, using(crate::proofs::Once::views_ask_once))]
 pub fn views_ask_once()
     ensures { ViewsAskOnce }
 {
@@ -29,7 +28,6 @@ pub fn picks_are_printed()
 }
 
 /// Each variable that a walk of a view's problem picks is printed.
-#[tactic(auto, using(crate::proofs::Printing::picks_of_views_are_printed))]
 pub fn picks_of_views_are_printed()
     ensures { PicksOfViewsArePrinted }
 {

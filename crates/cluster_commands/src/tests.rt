@@ -64,7 +64,7 @@ fn nothing_is_chosen_where_nothing_is_asked(rt: HostRuntime) -> Result<(), Fail>
         let answer = decide_in(alloc, namespace.as_bytes(), 1, &mut cluster)?;
         assert_eq!(rt;
             answer.text.as_slice(),
-            b"chosen\ncertificate 1 chosen\nvars 0\nwalk\nend\n"
+            b"chosen\ncertificate 1 chosen\nvars 0\nwalk\nend\n".as_slice()
         );
     }
     Ok(())

@@ -109,7 +109,7 @@ fn objects_of_the_namespace_are_shown(rt: HostRuntime) -> Result<(), Fail> {
     let view = View::new(Name::new(alloc, b"default")?, 12, slots);
     assert_eq!(rt;
         show_lines(alloc, &view)?.as_slice(),
-        b"/ConfigMap/default/a version 7 Plain\napps/Deployment/default/a version 12 Ready\n"
+        b"/ConfigMap/default/a version 7 Plain\napps/Deployment/default/a version 12 Ready\n".as_slice()
     );
     let empty = View::new(Name::new(alloc, b"default")?, 0, Vec::new(alloc));
     assert!(rt; show_lines(alloc, &empty)?.as_slice().is_empty());

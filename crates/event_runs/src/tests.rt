@@ -85,7 +85,7 @@ fn a_full_store_ends_a_run(rt: HostRuntime) -> Result<(), Fail> {
     assert_eq!(rt; ended, Err(Halt::Full));
     assert_eq!(rt;
         out.bytes(),
-        b"catalog olm/cat version 1\napply apps/Deployment/default/web version 2\n"
+        b"catalog olm/cat version 1\napply apps/Deployment/default/web version 2\n".as_slice()
     );
     Ok(())
 }
@@ -136,6 +136,6 @@ fn a_failed_output_ends_a_run(rt: HostRuntime) -> Result<(), Fail> {
         &mut out,
     );
     assert_eq!(rt; ended, Err(Halt::OutputFailed));
-    assert_eq!(rt; out.bytes(), b"catalog olm/cat version 1\n");
+    assert_eq!(rt; out.bytes(), b"catalog olm/cat version 1\n".as_slice());
     Ok(())
 }

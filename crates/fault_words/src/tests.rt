@@ -2,6 +2,7 @@ use super::*;
 use std::test::Fail;
 
 /// The words of a fault, by the functions above.
+#[derive(Clone, Copy)]
 enum Told {
     Stream(StreamFault),
     Field(u32, &'static str, FieldKind),

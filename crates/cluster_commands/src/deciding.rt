@@ -1,5 +1,5 @@
 // What is decided in a namespace.
-ghost use Rattle.std.specs.Prelude.{◌≡◌, true, not, IfOk, Ok, Some};
+ghost use Rattle.std.specs.Prelude.{◌≡◌, true, false, not};
 ghost use Rattle.olm_io.specs.Outside.{HasCause};
 ghost use Rattle.catalog_choice.specs.Asking.{IsNothing, IsOfView};
 ghost use Rattle.catalog_choice.specs.Deciding.{IsAnsweredBy};

@@ -7,6 +7,3 @@ mod words;
 
 pub use showing::show_lines;
 pub use words::status_word;
-
-#[cfg(test)]
-mod tests;

@@ -10,6 +10,3 @@ mod running;
 
 pub use halts::Halt;
 pub use running::run_events;
-
-#[cfg(test)]
-mod tests;

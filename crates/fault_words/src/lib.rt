@@ -10,9 +10,6 @@ use catalog_stream::StreamFault;
 use olm_base::{FieldKind, Memory, Text};
 use std::alloc::Global;
 
-#[cfg(test)]
-mod tests;
-
 /// A number in decimal digits.
 pub fn put_number(bytes: &mut Vec<u8>, alloc: Global, number: u64) -> Result<(), Memory>
     ensures { OnOk result (bytes.new.items ≡ bytes.old.items ++ decimal number) }

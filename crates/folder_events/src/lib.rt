@@ -13,6 +13,3 @@ mod words;
 pub use catalogs::catalog;
 pub use events::{is_users, user_event};
 pub use laws::{asks_one_thing, catalogs_are_valid};
-
-#[cfg(test)]
-mod tests;

@@ -9,8 +9,6 @@ mod answers;
 mod faults;
 mod picks;
 mod pieces;
-#[cfg(test)]
-mod tests;
 mod verdicts;
 
 pub use answers::{answer_text, certificate_of};

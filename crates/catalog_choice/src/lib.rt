@@ -10,8 +10,6 @@ mod asking;
 mod deciding;
 mod laws;
 mod picks;
-#[cfg(test)]
-mod tests;
 
 pub use asking::{Question, ask, ask_nothing, ask_view};
 pub use deciding::{Answer, Decided, decide_nothing, decide_text, resolve_text, verify_text};

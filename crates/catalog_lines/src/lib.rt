@@ -11,6 +11,3 @@ mod sources;
 pub use counts::counts_line;
 pub use faults::{fault_lines, put_rule};
 pub use graph::graph_lines;
-
-#[cfg(test)]
-mod tests;

@@ -6,6 +6,3 @@ mod scan;
 
 pub use blobs::{Blob, Blobs, StreamFault, depth_law, read_blobs};
 pub use scan::extent_law;
-
-#[cfg(test)]
-mod tests;

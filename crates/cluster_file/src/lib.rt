@@ -9,6 +9,3 @@ mod records;
 
 pub use laws::{damage_is_at_a_gate, files_stand_for_histories, gates_decide, reading_is_writing};
 pub use records::{next_record, record_piece};
-
-#[cfg(test)]
-mod tests;

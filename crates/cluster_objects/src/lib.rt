@@ -23,6 +23,3 @@ pub use resolutions::{Basis, Outcome, ResolutionStatus, Seen, Taken, Tip};
 pub use statuses::{
     CatalogStatus, Crd, CsvPhase, CsvStatus, Made, Readiness, SubSpec, SubState, SubscriptionStatus,
 };
-
-#[cfg(test)]
-mod tests;

@@ -14,8 +14,6 @@ mod met;
 mod pairs;
 mod scan;
 mod steps;
-#[cfg(test)]
-mod tests;
 mod walking;
 
 pub use checker::Checker;

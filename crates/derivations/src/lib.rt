@@ -10,8 +10,6 @@
 mod laws;
 mod reading;
 mod sink;
-#[cfg(test)]
-mod tests;
 mod text;
 
 pub use laws::{

@@ -13,6 +13,3 @@ mod reading;
 pub use events::Event;
 pub use laws::script_law;
 pub use reading::{EventFault, read_events};
-
-#[cfg(test)]
-mod tests;

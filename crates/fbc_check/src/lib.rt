@@ -13,8 +13,6 @@ mod links;
 mod notes;
 mod packages;
 mod tables;
-#[cfg(test)]
-mod tests;
 mod texts;
 
 pub use checking::{CheckRefusal, check};

@@ -18,8 +18,3 @@ mod schemas;
 pub use bodies::{BodyFault, INPUT_LIMIT, catalog_body};
 pub use laws::{constraint_law, folder_law, reading_law};
 pub use reading::{ReadFault, read_catalog};
-
-#[cfg(test)]
-mod body_tests;
-#[cfg(test)]
-mod tests;

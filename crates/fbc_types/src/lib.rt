@@ -20,6 +20,3 @@ pub use laws::{
 };
 pub use property::{Property, RawConstraint};
 pub use versions::own_version;
-
-#[cfg(test)]
-mod tests;

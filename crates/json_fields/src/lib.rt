@@ -19,6 +19,3 @@ pub use values::{
     bytes_at, bytes_item, check_fields, group_at, gvk, lend_fields, lend_present, lend_text_at,
     name_at, name_item, opt_name_at, opt_text_at, text_at,
 };
-
-#[cfg(test)]
-mod tests;

@@ -10,6 +10,3 @@ mod opening;
 
 pub use disk_calls::add_record;
 pub use opening::{Opened, open_file};
-
-#[cfg(test)]
-mod tests;

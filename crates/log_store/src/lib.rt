@@ -12,6 +12,3 @@ mod starting;
 pub use laws::gates_add_up;
 pub use log_cluster::LogCluster;
 pub use starting::StartFault;
-
-#[cfg(test)]
-mod tests;

@@ -9,6 +9,3 @@ mod owned;
 
 pub use names::NameSet;
 pub use owned::OwnedNames;
-
-#[cfg(test)]
-mod tests;

@@ -17,6 +17,3 @@ mod statuses;
 pub use bodies::{BODY_LIMIT, read_manifest, read_object};
 pub use faults::ObjectFault;
 pub use laws::{carried_law, made_law, namespace_law, new_law};
-
-#[cfg(test)]
-mod tests;

@@ -18,8 +18,3 @@ pub use sure::{Appended, SureCluster};
 
 /// The most writes that a store takes.
 pub const WRITE_LIMIT: u64 = 16_777_216;
-
-#[cfg(test)]
-mod mem_tests;
-#[cfg(test)]
-mod tests;

@@ -17,8 +17,6 @@ mod printing;
 mod reading;
 mod resolving;
 mod telling;
-#[cfg(test)]
-mod tests;
 mod verifying;
 mod words;
 

@@ -12,8 +12,6 @@ pub mod laws;
 mod mem_disk;
 mod replay;
 mod sure_disk;
-#[cfg(test)]
-mod tests;
 
 pub use disk::{Disk, FILE_LIMIT};
 pub use file_disk::FileDisk;

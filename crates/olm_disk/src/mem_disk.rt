@@ -70,17 +70,6 @@ impl MemDisk {
         }
     }
 
-    // A disk whose clock stands at its last moment.
-    #[cfg(test)]
-    pub(crate) fn at_the_end(alloc: Global, content: Bytes) -> MemDisk
-        ensures { result ≡ record { start = content; stages = []; clock = 2 ^ 64 - 1; call = 0; faults = 0; fails = [] } }
-    {
-        MemDisk {
-            clock: u64::MAX,
-            ..MemDisk::new(alloc, content, Many::new(alloc))
-        }
-    }
-
     /// The moment: how many of `write_at`, `cut` and `sync` were called, those aside that answered
     /// `Outage::Memory`. It stays at 2^64 - 1.
     pub fn clock(&self) -> u64

@@ -9,8 +9,6 @@ mod folder;
 mod mem_folder;
 mod std_folder;
 mod sure_folder;
-#[cfg(test)]
-mod tests;
 
 pub use folder::Folder;
 pub use mem_folder::MemFolder;

@@ -2,7 +2,5 @@
 #![tactic(auto)]
 
 mod asked;
-#[cfg(test)]
-mod tests;
 
 pub use asked::asked_view;

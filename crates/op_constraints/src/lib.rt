@@ -10,8 +10,6 @@ mod first;
 mod laws;
 mod problems;
 mod sets;
-#[cfg(test)]
-mod tests;
 mod walks;
 
 pub use first::{Tried, first_walk};

@@ -7,4 +7,3 @@ pub mod Cases
 pub mod Ordered
 pub mod Gathered
 pub mod Readable
-pub mod Samples

@@ -15,8 +15,3 @@ pub use laws::{constraint_law, kinds_law, order_law, passes_law, read_law};
 pub use offer::{Offer, offer_of};
 pub use passing::passes;
 pub use requirement::Requirement;
-
-#[cfg(test)]
-mod catalog_tests;
-#[cfg(test)]
-mod tests;

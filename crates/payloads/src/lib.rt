@@ -23,6 +23,3 @@ mod stored;
 
 pub use laws::{lists_end_by_the_bytes, parts_have_one_spelling, payloads_have_one_spelling};
 pub use payload::{read_base, read_payload, write_base, write_payload};
-
-#[cfg(test)]
-mod tests;

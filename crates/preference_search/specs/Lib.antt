@@ -4,5 +4,4 @@ pub mod Pairs
 pub mod Lists
 pub mod Searching
 pub mod State
-pub mod Tests
 pub mod Naming

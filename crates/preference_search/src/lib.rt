@@ -8,8 +8,6 @@ mod lists;
 mod naming;
 mod search;
 mod sets;
-#[cfg(test)]
-mod tests;
 
 pub use decisions::{decide, decide_plain};
 use derivations::Certificate;

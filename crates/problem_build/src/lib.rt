@@ -27,8 +27,3 @@ pub use laws::{
 pub use names::VarName;
 pub use problem::{problem_of, upgrades_of};
 pub use view_basis::{Visible, basis_of, catalogs_of, installed_of};
-
-#[cfg(test)]
-mod tests;
-#[cfg(test)]
-mod upgrade_tests;

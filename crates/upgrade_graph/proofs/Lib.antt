@@ -10,4 +10,3 @@ pub mod Placing
 pub mod Once
 mod Positions
 mod Following
-mod Example

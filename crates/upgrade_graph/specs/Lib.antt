@@ -5,4 +5,3 @@ pub mod Tables
 pub mod Upgrades
 pub mod Placed
 pub mod Laws
-pub mod Example

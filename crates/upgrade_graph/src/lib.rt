@@ -24,6 +24,3 @@ pub use laws::{
 };
 pub use placed::{ChannelOrder, entries_in_order};
 pub use tables::bundles_by_name;
-
-#[cfg(test)]
-mod tests;

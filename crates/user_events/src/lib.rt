@@ -17,6 +17,3 @@ mod wishes;
 pub use answers::UserAnswer;
 pub use events::{apply, approve, delete, ready, retry, write_catalog};
 pub use refusals::{Refusal, because};
-
-#[cfg(test)]
-mod tests;

@@ -15,6 +15,3 @@ mod words;
 pub use crate::fault::RangeFault;
 pub use crate::laws::{joined_law, plain_law, precedence_law, turns_law, version_law};
 pub use crate::range::Range;
-
-#[cfg(test)]
-mod tests;

@@ -18,6 +18,3 @@ pub use laws::{
 };
 pub use tips::{installed_of, tip_offer, tip_version, tips_of};
 pub use visible::{Visible, catalogs_of};
-
-#[cfg(test)]
-mod tests;

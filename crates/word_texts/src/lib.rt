@@ -6,8 +6,6 @@
 #![tactic(auto)]
 
 mod forms;
-#[cfg(test)]
-mod tests;
 mod texts;
 
 pub use texts::{fault_text, help_text};

@@ -1,9 +1,12 @@
 // A file that is opened: begun where it is empty, and read.
-ghost use Rattle.std.specs.Prelude.{◌≡◌, ◌≤◌, true, length, IfOk};
+ghost use Rattle.std.specs.Prelude.{◌≡◌, ◌≤◌, ◌<◌, true, length, IfOk, OnOk};
 ghost use Rattle.payloads.specs.Laws.{AreBytes};
 ghost use Rattle.cluster_file.specs.Files.{damage_in, stands};
+ghost use Rattle.cluster_file.specs.Writing.{empty_file};
+ghost use Rattle.olm_disk.specs.Disk.{LeavesOnly};
 ghost use Rattle.olm_io.specs.Outside.{HasCause};
 ghost use Rattle.object_store.specs.Puts.{Reopens, fault_failed};
+ghost use Rattle.log_file.specs.Crashes.{OpeningLeaves};
 ghost use Rattle.log_file.specs.Log.{HasBegun, IsLog};
 
 use crate::disk_calls::{begin, read_content};
@@ -44,6 +47,7 @@ fn load<D: Disk>(alloc: Global, disk: &mut D, len: u64, limit: u64) -> Result<Op
     ensures opened { IfOk result (λ opened. IsLog (D.tells disk.new) (D.content disk.new) (D.pending disk.new) opened.store.1 opened.gate true) }
     ensures limit { IfOk result (λ opened. opened.store.0 ≡ limit) }
     ensures same { D.content disk.new ≡ D.content disk.old }
+    ensures crash { D.tells disk.old ≡ true → LeavesOnly D.moment D.left_since disk.old disk.new (λ image. image ≡ D.content disk.old) }
     ensures tells { D.tells disk.new ≡ D.tells disk.old }
     ensures cause { HasCause (D.faults disk.old) (D.faults disk.new) (fault_failed result ≡ true) }
 {
@@ -69,6 +73,9 @@ pub fn open_file<D: Disk>(alloc: Global, disk: &mut D, limit: u64) -> Result<Ope
     ensures opened { IfOk result (λ opened. IsLog (D.tells disk.new) (D.content disk.new) (D.pending disk.new) opened.store.1 opened.gate true) }
     ensures limit { IfOk result (λ opened. opened.store.0 ≡ limit) }
     ensures same { D.tells disk.old ≡ true → stands (D.content disk.new) ≡ stands (D.content disk.old) }
+    ensures kept { D.tells disk.old ≡ true → 9 < length (D.content disk.old) → D.content disk.new ≡ D.content disk.old }
+    ensures made { D.tells disk.old ≡ true → length (D.content disk.old) ≤ 9 → OnOk result (D.content disk.new ≡ empty_file) }
+    ensures crash { D.tells disk.old ≡ true → LeavesOnly D.moment D.left_since disk.old disk.new (OpeningLeaves (D.content disk.old) (D.pending disk.old)) }
     ensures tells { D.tells disk.new ≡ D.tells disk.old }
     ensures cause { HasCause (D.faults disk.old) (D.faults disk.new) (fault_failed result ≡ true) }
 {

@@ -7,7 +7,7 @@ ghost use Rattle.olm_io.specs.Outside.{HasCause};
 ghost use Rattle.object_store.specs.Puts.{Agrees, IsSound, Puts, Reopens, Snapshots, fault_failed, has_room, put_failed};
 ghost use Rattle.log_store.specs.Adds.{PutsOn, is_refused};
 ghost use Rattle.log_store.specs.Starts.{disk_after, told};
-ghost use Rattle.log_store.specs.Store.{fits, has_place, store_history};
+ghost use Rattle.log_store.specs.Store.{IsWhole, fits, has_place, store_history};
 
 use crate::StartFault;
 use crate::adding::{discard, keep, prepared, view_of};
@@ -37,19 +37,20 @@ impl<D: Disk> Model for LogCluster<D> {
     ghost use Rattle.std.specs.Prelude.{◌≤◌};
     ghost use Rattle.log_file.specs.Log.{IsLog};
     ghost use Rattle.object_store.specs.declared.TheConstants.{WRITE_LIMIT};
-    ghost use Rattle.log_store.specs.Store.{LogClusterState};
+    ghost use Rattle.log_store.specs.Store.{IsWhole, LogClusterState};
 
     ghost Value = { LogClusterState D };
 
     ghost view = { λ s. record { disk = s.disk; limit = s.limit; writes = s.store.1; gate = s.gate; ready = s.ready } };
 
-    ghost invariant = { λ s. (s.limit ≤ WRITE_LIMIT) × IsLog (D.tells s.disk) (D.content s.disk) (D.pending s.disk) s.store.1 s.gate s.ready };
+    ghost invariant = { λ s. (s.limit ≤ WRITE_LIMIT) × IsLog (D.tells s.disk) (D.content s.disk) (D.pending s.disk) s.store.1 s.gate s.ready × IsWhole (D.tells s.disk) (D.content s.disk) };
 }
 
 impl<D: Disk> LogCluster<D> {
     /// Opens the file of this disk for a store that takes at most so many writes. It begins with a sync. A file of at
     /// most nine bytes is made that of the empty history; nothing else is written. Damaged comes exactly where the file
     /// stands for no history, with the place. What the file stands for is the same afterwards, however this ends.
+    #[tactic(auto, using(crate::proofs::Whole::whole_log))]
     pub fn start(alloc: Global, mut disk: D, limit: u64) -> Result<LogCluster<D>, StartFault<D>>
         requires { limit ≤ WRITE_LIMIT }
         ensures damage { D.tells disk ≡ true → Reopens (damage_in (D.content disk)) (told result) }
@@ -73,9 +74,13 @@ impl<D: Disk> LogCluster<D> {
         }
     }
 
-    /// Gives the disk back. It makes no call of it.
+    /// Gives the disk back. It makes no call of it. The file isn't damaged, however the calls of the store ended, and
+    /// the store's history is one.
+    #[tactic(auto, using(crate::proofs::Opening::always_history))]
     pub fn close(self) -> D
-        ensures { result ≡ self.disk }
+        ensures disk { result ≡ self.disk }
+        ensures whole { IsWhole (D.tells result) (D.content result) }
+        ensures still { IsHistory (store_history (D.tells result) (D.content result) self.writes) }
     {
         let LogCluster { disk, .. } = self;
         disk
@@ -172,6 +177,7 @@ impl<D: Disk> Cluster for LogCluster<D> {
     }
 
     /// Reads the file again.
+    #[tactic(auto, using(crate::proofs::Whole::whole_log, crate::proofs::Whole::whole_same))]
     fn reopen(&mut self, alloc: Global) -> Result<(), ClusterFault> {
         match open_file(alloc, &mut self.disk, self.limit) {
             Ok(Opened { store, gate }) => {

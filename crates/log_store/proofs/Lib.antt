@@ -1,3 +1,4 @@
+pub mod Crashing
 pub mod Keeping
 pub mod Opening
 pub mod Places

@@ -1,3 +1,4 @@
 pub mod Adds
+pub mod Crashes
 pub mod Starts
 pub mod Store

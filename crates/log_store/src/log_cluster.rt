@@ -1,11 +1,14 @@
 // A store of a history whose file is on a disk.
-ghost use Rattle.std.specs.Prelude.{◌≡◌, ◌≤◌, ◌<◌, true, false, not, length, IfOk};
+ghost use Rattle.std.specs.Prelude.{◌≡◌, ◌≤◌, ◌<◌, ℕ, List, true, false, not, length, IfOk, is_ok};
 ghost use Rattle.cluster_history.specs.History.{IsHistory};
 ghost use Rattle.cluster_file.specs.Files.{damage_in, history_in, record_form, stands};
 ghost use Rattle.cluster_file.specs.Writing.{history_after, piece};
 ghost use Rattle.olm_io.specs.Outside.{HasCause};
 ghost use Rattle.object_store.specs.Puts.{Agrees, IsSound, Puts, Reopens, Snapshots, fault_failed, has_room, put_failed};
+ghost use Rattle.log_file.specs.Crashes.{OpeningLeaves};
+ghost use Rattle.olm_disk.specs.Disk.{LeavesOnly, nothing_pending};
 ghost use Rattle.log_store.specs.Adds.{PutsOn, is_refused};
+ghost use Rattle.log_store.specs.Crashes.{IsFileOf, PutLeaves};
 ghost use Rattle.log_store.specs.Starts.{disk_after, told};
 ghost use Rattle.log_store.specs.Store.{IsWhole, fits, has_place, store_history};
 
@@ -61,6 +64,8 @@ impl<D: Disk> LogCluster<D> {
         ensures ready { IfOk result (λ s. s.ready ≡ true) }
         ensures tells { D.tells (disk_after result) ≡ D.tells disk }
         ensures cause { HasCause (D.faults disk) (D.faults (disk_after result)) (fault_failed (told result) ≡ true) }
+        ensures kept { D.tells disk ≡ true → 9 < length (D.content disk) → D.content (disk_after result) ≡ D.content disk }
+        ensures crash { D.tells disk ≡ true → LeavesOnly D.moment D.left_since disk (disk_after result) (OpeningLeaves (D.content disk) (D.pending disk)) }
     {
         match open_file(alloc, &mut disk, limit) {
             Ok(Opened { store, gate }) => Ok(LogCluster {
@@ -81,6 +86,7 @@ impl<D: Disk> LogCluster<D> {
         ensures disk { result ≡ self.disk }
         ensures whole { IsWhole (D.tells result) (D.content result) }
         ensures still { IsHistory (store_history (D.tells result) (D.content result) self.writes) }
+        ensures durable { D.tells result ≡ true → self.ready ≡ true → D.pending result ≡ nothing_pending (D.content result) }
     {
         let LogCluster { disk, .. } = self;
         disk
@@ -93,6 +99,14 @@ impl<D: Disk> LogCluster<D> {
         self.ready
     }
 
+    /// If the disk tells what it holds, nothing is pending on it while the store is ready. So a crash now leaves a file
+    /// of the store's history, and nothing else.
+    pub fn keeps_its_history(&self)
+        ensures durable { D.tells self.now.disk ≡ true → self.now.ready ≡ true → D.pending self.now.disk ≡ nothing_pending (D.content self.now.disk) }
+        ensures crash { D.tells self.now.disk ≡ true → self.now.ready ≡ true → (image : List ℕ) → D.left_since self.now.disk (D.moment self.now.disk) image
+            → IsFileOf (store_history (D.tells self.now.disk) (D.content self.now.disk) self.now.writes) image }
+    {}
+
     // Adds a write, whose version and room were tested.
     fn add(&mut self, alloc: Global, bytes: &[u8], write: Write) -> PutAnswer
         requires ready { self.old.ready ≡ true }
@@ -101,7 +115,8 @@ impl<D: Disk> LogCluster<D> {
         requires place { has_place self.old.gate (length (piece write 0)) ≡ true }
         requires agrees { Agrees (history_after self.old.writes) write }
         requires below { length self.old.writes < self.old.limit }
-        ensures { PutsOn D.tells D.content D.faults self.old write self.new result }
+        ensures puts { PutsOn D.tells D.content D.faults self.old write self.new result }
+        ensures crash { D.tells self.old.disk ≡ true → LeavesOnly D.moment D.left_since self.old.disk self.new.disk (PutLeaves (history_after self.old.writes) write result) }
     {
         match keep(
             alloc,
@@ -166,6 +181,7 @@ impl<D: Disk> Cluster for LogCluster<D> {
         ensures untouched { is_refused result ≡ true → self.new ≡ self.old }
         ensures tried { let h = store_history (D.tells self.old.disk) (D.content self.old.disk) self.old.writes in put_failed result ≡ true → Agrees h write × (has_room (fits h write) self.old.limit h ≡ true) }
         ensures sound { IsSound (D.tells self.new.disk) self.new.ready (damage_in (D.content self.new.disk)) }
+        ensures crash { D.tells self.old.disk ≡ true → LeavesOnly D.moment D.left_since self.old.disk self.new.disk (PutLeaves (store_history (D.tells self.old.disk) (D.content self.old.disk) self.old.writes) write result) }
     {
         match prepared(alloc, &self.store, self.limit, self.gate, &write) {
             Ok(piece) => self.add(alloc, piece.as_slice(), write),
@@ -176,9 +192,20 @@ impl<D: Disk> Cluster for LogCluster<D> {
         }
     }
 
-    /// Reads the file again.
+    /// Reads the file again. A crash meanwhile leaves what it might have left before, or a file of the same history.
     #[tactic(auto, using(crate::proofs::Whole::whole_log, crate::proofs::Whole::whole_same))]
-    fn reopen(&mut self, alloc: Global) -> Result<(), ClusterFault> {
+    fn reopen(&mut self, alloc: Global) -> Result<(), ClusterFault>
+        ensures damage { D.tells self.old.disk ≡ true → Reopens (damage_in (D.content self.old.disk)) result }
+        ensures history { D.tells self.old.disk ≡ true → store_history (D.tells self.new.disk) (D.content self.new.disk) self.new.writes ≡ store_history (D.tells self.old.disk) (D.content self.old.disk) self.old.writes }
+        ensures still { IsHistory (store_history (D.tells self.old.disk) (D.content self.old.disk) self.old.writes) → IsHistory (store_history (D.tells self.new.disk) (D.content self.new.disk) self.new.writes) }
+        ensures tells { D.tells self.new.disk ≡ D.tells self.old.disk }
+        ensures limit { self.new.limit ≡ self.old.limit }
+        ensures cause { HasCause (D.faults self.old.disk) (D.faults self.new.disk) (fault_failed result ≡ true) }
+        ensures sound { IsSound (D.tells self.old.disk) self.old.ready (damage_in (D.content self.old.disk)) → IsSound (D.tells self.new.disk) self.new.ready (damage_in (D.content self.new.disk)) }
+        ensures ready { self.new.ready ≡ is_ok result }
+        ensures kept { D.tells self.old.disk ≡ true → 9 < length (D.content self.old.disk) → D.content self.new.disk ≡ D.content self.old.disk }
+        ensures crash { D.tells self.old.disk ≡ true → LeavesOnly D.moment D.left_since self.old.disk self.new.disk (OpeningLeaves (D.content self.old.disk) (D.pending self.old.disk)) }
+    {
         match open_file(alloc, &mut self.disk, self.limit) {
             Ok(Opened { store, gate }) => {
                 self.store = store;

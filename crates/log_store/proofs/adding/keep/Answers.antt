@@ -1,6 +1,7 @@
 use Rattle.std.proofs.Common.{ℕ, List, Result, Ok, refl, sym, ap, ◌∙◌}
 use Rattle.cluster_objects.specs.declared.objects.Write.{Write}
 use Rattle.olm_io.specs.declared.traits.Outage.{Outage}
+use Rattle.log_store.proofs.Crashing.{nothing_kept, record_kept, record_lost}
 use Rattle.log_store.proofs.Keeping.{log_done, within_file}
 use Rattle.log_store.proofs.Whole.{whole_added, whole_log}
 use Rattle.log_store.proofs.adding.keep.Goals as goal
@@ -33,3 +34,20 @@ returns-in-Ok-add_record-clause-whole g c =
 pub returns-in_default-clause-whole : goal.returns-in_default-clause-whole
 returns-in_default-clause-whole g c =
     whole_log (g.D.Disk.tells c.args.disk.now) (g.D.Disk.content c.args.disk.now) (g.D.Disk.pending c.args.disk.now) c.args.store.now.1 c.args.gate c.requires.log
+
+pub returns-in-Ok-add_record-clause-crash : goal.returns-in-Ok-add_record-clause-crash
+returns-in-Ok-add_record-clause-crash g c told =
+    let log = c.requires.log in
+    record_kept g.D.Disk.tells g.D.Disk.content g.D.Disk.pending g.D.Disk.moment g.D.Disk.left_since c.args.disk.now c.add_record.new.disk c.args.store.now.1 c.args.write c.version_of.result
+    (c.in-Ok-add_record.ensures.crash told c.args.store.now.1 c.args.write log.place c.requires.piece (log.settled told refl))
+
+pub returns-in-Err-clause-crash : goal.returns-in-Err-clause-crash
+returns-in-Err-clause-crash g c told =
+    let log = c.requires.log in
+    record_lost g.D.Disk.tells g.D.Disk.content g.D.Disk.pending g.D.Disk.moment g.D.Disk.left_since c.in-Err.outage c.args.disk.now c.add_record.new.disk c.args.store.now.1 c.args.write
+    (c.in-Err.ensures.crash told c.args.store.now.1 c.args.write log.place c.requires.piece (log.settled told refl))
+
+pub returns-in_default-clause-crash : goal.returns-in_default-clause-crash
+returns-in_default-clause-crash g c told =
+    nothing_kept g.D.Disk.tells g.D.Disk.content g.D.Disk.pending g.D.Disk.moment g.D.Disk.left_since c.args.disk.now c.args.store.now.1 c.args.write
+    (λ image left. g.met.D.Disk.only_now c.args.disk.now image left) (c.requires.log.settled told refl)

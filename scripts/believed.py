@@ -19,9 +19,9 @@ ROOT = Path(__file__).resolve().parent.parent
 CRATES = ROOT / "crates"
 NAME = r"[A-Za-z_◌][A-Za-z0-9_'\-◌>=⊗]*"
 WORD = re.compile(r"[A-Za-z_][A-Za-z0-9_'\-]*(?:\.[A-Za-z_][A-Za-z0-9_'\-]*)*|>>=|⊗")
-HEAD = re.compile(r"^(?:abbrev pub|abbrev|pub record|record|pub data|data) (" + NAME + ")")
+HEAD = re.compile(r"^(?:(?:abbrev|unfoldable|record|data|pub) )+(?!mod |use )(" + NAME + ")")
 USE = re.compile(r"(?:pub |ghost )?use Rattle\.(\w+)\.specs\.([\w.]+?)(?:\.\{([^}]*)\}| as (\w+))?;?\s*$")
-TYPE = re.compile(r"^\s*pub (struct|enum|trait) (\w+)")
+TYPE = re.compile(r"^\s*(?:pub(?:\([a-z ]+\))? )?(struct|enum|trait) (\w+)")
 
 
 class Item:
@@ -73,7 +73,11 @@ class Module:
                 first -= 1
             name = HEAD.match(lines[here]).group(1)
             text = "\n".join(lines[first:last])
-            self.items[name] = Item("definition", name, path, first + 1, last, text, self)
+            item = Item("definition", name, path, first + 1, last, text, self)
+            self.items[name] = item
+            if re.match(r"(?:pub )?data ", lines[here]):
+                for variant in re.findall(r"^\s+([A-Z]\w*) :", text, re.M):
+                    self.items.setdefault(variant, item)
 
 
 class Code:

@@ -12,6 +12,7 @@ import re
 MANDATORY = "mandatory"
 DEPENDENCY = "dependency"
 AT_MOST = "at most"
+CONFLICT = "conflict"
 
 
 def stream(packages):
@@ -87,6 +88,7 @@ def first_broken(problem, chosen):
             met = {
                 MANDATORY: lambda: variable in chosen,
                 DEPENDENCY: lambda: variable not in chosen or any(m in chosen for m in constraint[1]),
+                CONFLICT: lambda: variable not in chosen or constraint[1] not in chosen,
                 AT_MOST: lambda: sum(m in chosen for m in constraint[2]) <= constraint[1],
             }[constraint[0]]()
             if not met:
@@ -221,6 +223,8 @@ def clause_of(problem, hint):
         return {(m, False) for m in members} if good else None
     if members:
         return None
+    if constraint[0] == CONFLICT:
+        return {(variable, False), (constraint[1], False)}
     return {(variable, True)} if constraint[0] == MANDATORY else {(variable, False)} | {(m, True) for m in constraint[1]}
 
 

@@ -87,6 +87,13 @@ module _ {D : Type 0} (tells : D → Bool) (content : D → List ℕ) (pending :
       (λ image left. refused_leaves answer (history_after ws) w image (file_of image ws log.are_writes (settled_leaves (content old) image (pending old) ws (log.settled told is) (here image left)))))
       is told
 
+  -- the history of a store that is ready is that of its writes
+  pub told_writes : (self : LogClusterState D) (old : D) (limit gate : ℕ) (ready : Bool) (ws : List Write) → store_of old limit ws gate ready ≡ self
+      → IsLog (tells old) (content old) (pending old) ws gate ready → self.ready ≡ true → store_history (tells self.disk) (content self.disk) self.writes ≡ history_after self.writes
+  told_writes self old limit gate ready ws view_is log is =
+      subst (λ (s : LogClusterState D). s.ready ≡ true → store_history (tells s.disk) (content s.disk) s.writes ≡ history_after s.writes) view_is
+      (λ is. told_history (tells old) (content old) (pending old) ws gate ready log is) is
+
   -- of a store that is ready a crash now leaves its history
   pub leaves_now : (self : LogClusterState D) (old : D) (limit gate : ℕ) (ready : Bool) (ws : List Write) → store_of old limit ws gate ready ≡ self
       → IsLog (tells old) (content old) (pending old) ws gate ready → ((image : List ℕ) → left_since old (moment old) image → MayLeave (content old) (pending old) image)

@@ -92,20 +92,16 @@ impl<D: Disk> LogCluster<D> {
         disk
     }
 
-    /// Whether no call has failed since the store was opened last.
+    /// Whether no call has failed since the store was opened last. If the disk tells what it holds, nothing is pending on
+    /// it while the store is ready. So a crash now leaves a file of the store's history, and nothing else.
     pub fn is_ready(&self) -> bool
-        ensures { result ≡ self.now.ready }
-    {
-        self.ready
-    }
-
-    /// If the disk tells what it holds, nothing is pending on it while the store is ready. So a crash now leaves a file
-    /// of the store's history, and nothing else.
-    pub fn keeps_its_history(&self)
+        ensures ready { result ≡ self.now.ready }
         ensures durable { D.tells self.now.disk ≡ true → self.now.ready ≡ true → D.pending self.now.disk ≡ nothing_pending (D.content self.now.disk) }
         ensures crash { D.tells self.now.disk ≡ true → self.now.ready ≡ true → (image : List ℕ) → D.left_since self.now.disk (D.moment self.now.disk) image
             → IsFileOf (store_history (D.tells self.now.disk) (D.content self.now.disk) self.now.writes) image }
-    {}
+    {
+        self.ready
+    }
 
     // Adds a write, whose version and room were tested.
     fn add(&mut self, alloc: Global, bytes: &[u8], write: Write) -> PutAnswer

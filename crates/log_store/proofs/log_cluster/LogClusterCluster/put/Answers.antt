@@ -1,8 +1,8 @@
 use Rattle.std.proofs.Common.{sym, subst}
 use Rattle.olm_disk.specs.Disk.{LeavesOnly}
 use Rattle.log_store.specs.Crashes.{PutLeaves}
-use Rattle.log_store.proofs.Crashing.{leaves_nothing}
-use Rattle.log_store.proofs.Putting.{puts_nothing, told_store}
+use Rattle.log_store.proofs.Crashing.{leaves_nothing, told_writes}
+use Rattle.log_store.proofs.Putting.{puts_nothing}
 use Rattle.log_store.proofs.log_cluster.LogClusterCluster.put.Goals as goal
 
 pub returns-in-Err-clause-puts : goal.returns-in-Err-clause-puts
@@ -21,13 +21,13 @@ pub returns-in-Ok-clause-crash : goal.returns-in-Ok-clause-crash
 returns-in-Ok-clause-crash g c told =
     let s = c.self.inside in
     subst (λ h. LeavesOnly g.D.Disk.moment g.D.Disk.left_since c.args.self.now.disk c.add.new.self.disk (PutLeaves h c.args.write c.add.result))
-    (sym (told_store g.D.Disk.tells g.D.Disk.content g.D.Disk.pending c.args.self.now s.disk s.limit s.gate s.ready s.store.1 c.self.view_is c.self.invariant.1 c.requires))
+    (sym (told_writes g.D.Disk.tells g.D.Disk.content g.D.Disk.pending g.D.Disk.moment g.D.Disk.left_since c.args.self.now s.disk s.limit s.gate s.ready s.store.1 c.self.view_is c.self.invariant.1 c.requires))
     (c.add.ensures.crash told)
 
 pub returns-in-Err-clause-crash : goal.returns-in-Err-clause-crash
 returns-in-Err-clause-crash g c told =
     let s = c.self.inside in
     subst (λ h. LeavesOnly g.D.Disk.moment g.D.Disk.left_since c.args.self.now.disk c.args.self.now.disk (PutLeaves h c.args.write c.in-Err.answer))
-    (sym (told_store g.D.Disk.tells g.D.Disk.content g.D.Disk.pending c.args.self.now s.disk s.limit s.gate s.ready s.store.1 c.self.view_is c.self.invariant.1 c.requires))
+    (sym (told_writes g.D.Disk.tells g.D.Disk.content g.D.Disk.pending g.D.Disk.moment g.D.Disk.left_since c.args.self.now s.disk s.limit s.gate s.ready s.store.1 c.self.view_is c.self.invariant.1 c.requires))
     (leaves_nothing g.D.Disk.tells g.D.Disk.content g.D.Disk.pending g.D.Disk.moment g.D.Disk.left_since c.args.self.now s.disk s.limit s.gate s.ready s.store.1 c.args.write c.in-Err.answer
     c.self.view_is c.self.invariant.1 c.requires (λ image left. g.met.D.Disk.only_now s.disk image left) told)

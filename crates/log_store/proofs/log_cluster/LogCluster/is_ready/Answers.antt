@@ -1,5 +1,5 @@
 use Rattle.log_store.proofs.Crashing.{durable_now, leaves_now}
-use Rattle.log_store.proofs.log_cluster.LogCluster.keeps_its_history.Goals as goal
+use Rattle.log_store.proofs.log_cluster.LogCluster.is_ready.Goals as goal
 
 pub returns-clause-durable : goal.returns-clause-durable
 returns-clause-durable g c told is =

@@ -1,0 +1,123 @@
+// A run of events over the file of a disk.
+ghost use Rattle.std.specs.Prelude.{◌≡◌, ℕ, Bool, true, false, Result, All};
+ghost use Rattle.std.specs.List.{list_any};
+ghost use Rattle.cluster_history.specs.History.{History};
+ghost use Rattle.event_script.specs.Ranges.{IsInRange};
+ghost use Rattle.folder_events.specs.Events.{is_of_folder};
+ghost use Rattle.log_store.specs.Starts.{cause_of, disk_of};
+ghost use Rattle.olm_io.specs.Outside.{HasCause};
+ghost use Rattle.file_commands.specs.FileRuns.{FileRuns, disk_failed, folder_failed, output_failed, was_opened};
+ghost use Rattle.file_commands.specs.Opens.{Opens};
+
+use crate::opening::fault_and_disk;
+use event_runs::{Halt, run_events};
+use event_script::Event;
+use lent_disk::{Borrow, Handle, Lent};
+use log_store::LogCluster;
+use object_store::{ClusterFault, WRITE_LIMIT};
+use olm_disk::Disk;
+use olm_folder::Folder;
+use olm_io::Sink;
+use std::alloc::Global;
+use std::marker::Brand;
+
+/// Why a run over a file ends before its events do.
+#[derive(Clone, Copy, Debug, PartialEq, Eq)]
+pub enum RunFault {
+    /// The file stands for no history, from this place on. No event was applied.
+    Damaged { at: u64 },
+    /// A call of the disk failed while the file was opened. No event was applied.
+    Failed,
+    /// Memory ran out while the file was opened. No event was applied.
+    Memory,
+    /// The file was opened, and the run of the events ended for this.
+    Halted(Halt),
+}
+
+fn not_opened(fault: ClusterFault) -> RunFault {
+    match fault {
+        ClusterFault::Damaged { at } => RunFault::Damaged { at },
+        ClusterFault::Failed => RunFault::Failed,
+        ClusterFault::Memory => RunFault::Memory,
+    }
+}
+
+// Runs the events over the file of a disk of its own, and gives the disk back.
+fn run_on<D: Disk, F: Folder, O: Sink>(
+    alloc: Global,
+    events: &[Event],
+    disk: D,
+    folder: &mut F,
+    out: &mut O,
+) -> (Result<(), RunFault>, D)
+    requires ranges { All IsInRange events.now }
+    ensures runs { (found : Result History ℕ) × (left : Result History ℕ) × Opens (D.tells disk) (D.content disk) found × Opens (D.tells disk) (D.content result.1) left
+        × FileRuns (D.tells disk) (F.held folder.old) found events.now left (O.held out.old) (O.held out.new) result.0 }
+    ensures unopened { was_opened result.0 ≡ false → (folder.new ≡ folder.old) × (out.new ≡ out.old) }
+    ensures tells { D.tells result.1 ≡ D.tells disk }
+    ensures same { F.held folder.new ≡ F.held folder.old }
+    ensures disk { HasCause (D.faults disk) (D.faults result.1) (disk_failed result.0 ≡ true) }
+    ensures folder { HasCause (F.faults folder.old) (F.faults folder.new) (folder_failed result.0 ≡ true) }
+    ensures output { HasCause (O.faults out.old) (O.faults out.new) (output_failed result.0 ≡ true) }
+{
+    match LogCluster::start(alloc, disk, WRITE_LIMIT) {
+        Ok(mut store) => {
+            let end = run_events(alloc, events, &mut store, folder, out);
+            (end.map_err(RunFault::Halted), store.close())
+        }
+        Err(fault) => {
+            let (fault, disk) = fault_and_disk(fault);
+            (Err(not_opened(fault)), disk)
+        }
+    }
+}
+
+// The same over a borrowed disk.
+fn run_lent<'a, D: Disk, B: Borrow, F: Folder, O: Sink>(
+    alloc: Global,
+    events: &[Event],
+    handle: Handle<'a, D>,
+    folder: &mut F,
+    out: &mut O,
+) -> (Result<(), RunFault>, Handle<'a, D>)
+    requires ranges { All IsInRange events.now }
+    requires borrow { handle.disk.ghost_name ≡ B.name }
+    ensures runs { (found : Result History ℕ) × (left : Result History ℕ) × Opens (D.tells handle.entry.disk.now) (D.content handle.entry.disk.now) found
+        × Opens (D.tells handle.entry.disk.now) (D.content result.1.disk.now) left
+        × FileRuns (D.tells handle.entry.disk.now) (F.held folder.old) found events.now left (O.held out.old) (O.held out.new) result.0 }
+    ensures unopened { was_opened result.0 ≡ false → (folder.new ≡ folder.old) × (out.new ≡ out.old) }
+    ensures tells { D.tells result.1.disk.now ≡ D.tells handle.entry.disk.now }
+    ensures same { F.held folder.new ≡ F.held folder.old }
+    ensures disk { HasCause (D.faults handle.entry.disk.now) (D.faults result.1.disk.now) (disk_failed result.0 ≡ true) }
+    ensures folder { HasCause (F.faults folder.old) (F.faults folder.new) (folder_failed result.0 ≡ true) }
+    ensures output { HasCause (O.faults out.old) (O.faults out.new) (output_failed result.0 ≡ true) }
+    ensures same_reference { result.1.disk.ghost_name ≡ handle.entry.disk.ghost_name }
+{
+    let (end, lent) = run_on(alloc, events, Lent::<'a, D, B>::new(handle), folder, out);
+    (end, lent.into_handle())
+}
+
+/// Runs the events over the store in the file of this disk. Where the disk tells what it holds, the history before is
+/// what the file stood for, and the one afterwards is what it stands for then: also after a failed call the file isn't
+/// damaged. Where no store is opened nothing is put, and folder and output stay as they are.
+pub fn run_file<D: Disk, F: Folder, O: Sink>(
+    alloc: Global,
+    events: &[Event],
+    disk: &mut D,
+    folder: &mut F,
+    out: &mut O,
+) -> Result<(), RunFault>
+    requires ranges { All IsInRange events.now }
+    ensures runs { (found : Result History ℕ) × (left : Result History ℕ) × Opens (D.tells disk.old) (D.content disk.old) found × Opens (D.tells disk.old) (D.content disk.new) left
+        × FileRuns (D.tells disk.old) (F.held folder.old) found events.now left (O.held out.old) (O.held out.new) result }
+    ensures unopened { was_opened result ≡ false → (folder.new ≡ folder.old) × (out.new ≡ out.old) }
+    ensures tells { D.tells disk.new ≡ D.tells disk.old }
+    ensures same { F.held folder.new ≡ F.held folder.old }
+    ensures disk { HasCause (D.faults disk.old) (D.faults disk.new) (disk_failed result ≡ true) }
+    ensures folder { HasCause (F.faults folder.old) (F.faults folder.new) (folder_failed result ≡ true) }
+    ensures catalog { folder_failed result ≡ true → list_any is_of_folder events.now ≡ true }
+    ensures output { HasCause (O.faults out.old) (O.faults out.new) (output_failed result ≡ true) }
+{
+    let (end, _) = run_lent::<D, Brand, F, O>(alloc, events, Handle::new(disk), folder, out);
+    end
+}

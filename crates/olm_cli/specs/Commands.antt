@@ -11,7 +11,7 @@ use Rattle.olm_cli.specs.Running.{RunRuns}
 use Rattle.olm_cli.specs.Runs.{Ran, stopped, After, Comes}
 use Rattle.olm_cli.specs.Verifying.{VerifyRuns}
 use Rattle.olm_cli.specs.Words.{Place, Task, Check, Graph, Resolve, Command, Help, OnCatalog, Verify, Run, Show, Decide}
-use Rattle.olm_cli.specs.Worlds.{World}
+use Rattle.olm_cli.specs.Worlds.{World, StandsStill}
 
 -- Each task has its runs over the text of a catalog.
 abbrev pub TaskRuns : Task → List ℕ → Ran → Type 0
@@ -29,7 +29,7 @@ HelpRuns ran = ran.end ≡ None
 
 -- A permitted text is printed, or a front of one, and the cluster file stands for what it did.
 abbrev pub Prints : (Ran → Type 0) → World → World → Option Cause → Type 0
-Prints Permits old new end = Comes Permits end old.out new.out × (new.file ≡ old.file)
+Prints Permits old new end = Comes Permits end old.out new.out × StandsStill old new
 
 -- Each command has its runs: the world before and afterwards, and the cause for which the run isn't done. Words that are no command stop before anything is read.
 abbrev pub CommandRuns : Option Command → World → World → Option Cause → Type 0
@@ -38,8 +38,8 @@ CommandRuns (Some Help) old new end = Prints HelpRuns old new end
 CommandRuns (Some (OnCatalog place task)) old new end = Prints (CatalogRuns place task old.files old.left) old new end
 CommandRuns (Some (Verify path package_name channel)) old new end = Prints (VerifyRuns path package_name channel old.files old.left) old new end
 CommandRuns (Some Run) old new end = RunRuns old new end
-CommandRuns (Some (Show namespace)) old new end = Prints (ShowRuns namespace old.file) old new end
-CommandRuns (Some (Decide budget namespace)) old new end = Prints (DecideRuns budget namespace old.file) old new end
+CommandRuns (Some (Show namespace)) old new end = Prints (ShowRuns namespace old.tells old.content) old new end
+CommandRuns (Some (Decide budget namespace)) old new end = Prints (DecideRuns budget namespace old.tells old.content) old new end
 
 -- what a command reads, and whether it opens the cluster file; `run` reads the folder at a `catalog` event alone
 abbrev pub reads_folder : Option Command → Bool

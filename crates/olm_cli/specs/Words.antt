@@ -97,18 +97,18 @@ budget_of (first ∷ digits) = if first == 48 then None else number_after 0 (fir
 abbrev pub budget_text : List ℕ → Option (List ℕ)
 budget_text word = if pointwise nat_eq (take 9 word) (codes "--budget=") then Some (drop 9 word) else None
 
-abbrev pub budgeted_by : Option (List ℕ) → List ℕ → List (List ℕ) → Option (ℕ × List (List ℕ))
-budgeted_by None word words = Some (default_budget, word ∷ words)
-budgeted_by (Some digits) word words = option_map (λ budget. (budget, words)) (budget_of digits)
+abbrev pub budget_first_by : Option (List ℕ) → List ℕ → List (List ℕ) → Option (ℕ × List (List ℕ))
+budget_first_by None word words = Some (default_budget, word ∷ words)
+budget_first_by (Some digits) word words = option_map (λ budget. (budget, words)) (budget_of digits)
 
 -- `[--budget=N]` and a form: the budget, and the words of the form
-abbrev pub budgeted : List (List ℕ) → Option (ℕ × List (List ℕ))
-budgeted [] = Some (default_budget, [])
-budgeted (word ∷ words) = budgeted_by (budget_text word) word words
+abbrev pub budget_first : List (List ℕ) → Option (ℕ × List (List ℕ))
+budget_first [] = Some (default_budget, [])
+budget_first (word ∷ words) = budget_first_by (budget_text word) word words
 
 -- `[--budget=N] PATH PACKAGE CHANNEL`
 abbrev pub resolve_of : List (List ℕ) → Option Command
-resolve_of words = option_and_then (λ found. resolve_within found.0 found.1) (budgeted words)
+resolve_of words = option_and_then (λ found. resolve_within found.0 found.1) (budget_first words)
 
 -- `PATH PACKAGE CHANNEL`, where the input is no place
 abbrev pub verify_of : List (List ℕ) → Option Command
@@ -132,7 +132,7 @@ decide_within budget words = None
 
 -- `[--budget=N] NAMESPACE`
 abbrev pub decide_of : List (List ℕ) → Option Command
-decide_of words = option_and_then (λ found. decide_within found.0 found.1) (budgeted words)
+decide_of words = option_and_then (λ found. decide_within found.0 found.1) (budget_first words)
 
 -- the one word `--help`
 abbrev pub help_of : List (List ℕ) → Option Command

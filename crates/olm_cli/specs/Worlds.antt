@@ -1,40 +1,25 @@
 -- What lies outside a call, as far as that is told.
-use Rattle.std.specs.Prelude.{◌≡◌, ⊤, ℕ, Bool, true, false, if◌then◌else◌, List, [], Option, Some, None, Result, Ok, Err}
-use Rattle.cluster_file.specs.Files.{Standing, Stands, Damaged as NoHistory, stands}
-use Rattle.cluster_history.specs.History.{History, Start, empty}
+use Rattle.std.specs.Prelude.{◌≡◌, ℕ, Bool, true, List, [], Option}
+use Rattle.cluster_file.specs.Files.{stands}
+use Rattle.event_runs.specs.Runs.{Files}
+use Rattle.file_commands.specs.Opens.{found_in}
 use Rattle.olm_io.specs.Outside.{Appends}
-use Rattle.olm_cli.specs.declared.causes.Cause.{Cause}
-use Rattle.olm_cli.specs.declared.causes.Cause.TheVariants.{Damaged}
 
--- The files of the folder, what is left of the input, what the cluster file stands for, and what `out` holds: each where it is told.
+-- The files of the folder, and what is left of the input, where they are told. Whether the disk tells what the cluster file holds, and what that is. What `out` holds, where that is told.
 pub record World : Type 0 where
-  pub files : Option (List (List ℕ × List ℕ))
+  pub files : Files
   pub left : Option (List ℕ)
-  pub file : Option (Result History Cause)
+  pub tells : Bool
+  pub content : List ℕ
   pub out : Option (List ℕ)
 
--- a file that was opened: its history, or damage
-abbrev pub opened : Standing → Result History Cause
-opened (Stands h place) = Ok h
-opened (NoHistory at) = Err (Damaged at)
+abbrev pub world : Files → Option (List ℕ) → Bool → List ℕ → Option (List ℕ) → World
+world files left tells content out = record { files = files; left = left; tells = tells; content = content; out = out }
 
--- the history that is in a file; the empty one where it is damaged
-abbrev pub history_in : Result History Cause → History
-history_in (Ok h) = h
-history_in (Err cause) = Start empty
+-- The cluster file stands for what it did: the same history, or damage at the same place.
+abbrev pub StandsStill : World → World → Type 0
+StandsStill old new = old.tells ≡ true → found_in (stands new.content) ≡ found_in (stands old.content)
 
--- what the file of a disk stands for, where the disk tells what it holds
-abbrev pub file_of : Bool → List ℕ → Option (Result History Cause)
-file_of tells content = if tells then Some (opened (stands content)) else None
-
-abbrev pub world : Option (List (List ℕ × List ℕ)) → Option (List ℕ) → Bool → List ℕ → Option (List ℕ) → World
-world files left tells content out = record { files = files; left = left; file = file_of tells content; out = out }
-
--- the value is the one that is told; where none is told it may be any
-abbrev pub IsKnown : {T : Type 0} → Option T → T → Type 0
-IsKnown None value = ⊤
-IsKnown (Some told) value = told ≡ value
-
--- nothing was put, and the file stands for what it did
+-- Nothing was put, and the file stands for what it did.
 abbrev pub IsStill : World → World → Type 0
-IsStill old new = Appends old.out new.out [] × (new.file ≡ old.file)
+IsStill old new = Appends old.out new.out [] × StandsStill old new

@@ -209,8 +209,8 @@ fn budget_text(word: &Text) -> Option<&[u8]>
 }
 
 /// The budget, which may stand first, and the words behind it.
-fn budgeted(words: &[Text]) -> Option<Budgeted<'_>>
-    ensures { option_map (λ found. (found.budget, found.form.now)) result ≡ spec.budgeted words.now }
+fn budget_first(words: &[Text]) -> Option<Budgeted<'_>>
+    ensures { option_map (λ found. (found.budget, found.form.now)) result ≡ spec.budget_first words.now }
 {
     match words {
         [] => Some(Budgeted {
@@ -233,7 +233,7 @@ fn budgeted(words: &[Text]) -> Option<Budgeted<'_>>
 fn resolve_of(words: &[Text]) -> Option<Command<'_>>
     ensures { option_map spec.command_view result ≡ spec.resolve_of words.now }
 {
-    match budgeted(words) {
+    match budget_first(words) {
         None => None,
         Some(Budgeted { budget, form }) => resolve_within(budget, form),
     }
@@ -300,7 +300,7 @@ fn decide_within(budget: u32, words: &[Text]) -> Option<Command<'_>>
 fn decide_of(words: &[Text]) -> Option<Command<'_>>
     ensures { option_map spec.command_view result ≡ spec.decide_of words.now }
 {
-    match budgeted(words) {
+    match budget_first(words) {
         None => None,
         Some(Budgeted { budget, form }) => decide_within(budget, form),
     }

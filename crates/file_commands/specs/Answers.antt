@@ -2,22 +2,28 @@
 use Rattle.std.specs.Prelude.{◌≡◌, Bool, true, false, ℕ, List, Option, Result, Ok, Err}
 use Rattle.cluster_history.specs.History.{History}
 use Rattle.cluster_history.specs.Views.{View}
-use Rattle.object_store.specs.declared.cluster.ClusterFault.{ClusterFault}
-use Rattle.object_store.specs.declared.cluster.ClusterFault.TheVariants as store
 use Rattle.problem_build.specs.declared.building.BuildFault.TheVariants as build
 use Rattle.catalog_choice.specs.Deciding.{IsAnsweredBy}
 use Rattle.catalog_choice.specs.declared.deciding.Answer.{Answer}
 use Rattle.cluster_commands.specs.Asked.{IsAskedIn, seen_in}
-use Rattle.file_commands.specs.declared.asking.FileFault.{FileFault}
-use Rattle.file_commands.specs.declared.asking.FileFault.TheVariants as fault
+use Rattle.file_commands.specs.declared.faults.FileFault.{FileFault}
+use Rattle.file_commands.specs.declared.faults.FileFault.TheVariants.{Damaged, Failed, TooManyVariables, Memory}
 
--- An answer is one of the history that was found, and so is the size of a problem above the limit. Damage is told with its place. A failed call of the disk and want of memory may come at any time.
+-- The first two say which answers a history gives, and which sizes of a problem above the limit. An answer is one of the history that was found, and so is such a size. Damage is told with its place. A failed call of the disk and want of memory may come at any time.
 abbrev pub Answers : {T : Type 0} → (History → T → Type 0) → (History → ℕ → Type 0) → Result History ℕ → Result T FileFault → Type 0
-Answers Is IsTooLarge found (Ok answer) = (h : History) × (found ≡ Ok h) × Is h answer
-Answers Is IsTooLarge found (Err (fault.Damaged at)) = found ≡ Err at
-Answers Is IsTooLarge found (Err fault.Failed) = Unit {0}
-Answers Is IsTooLarge found (Err (fault.TooManyVariables count)) = (h : History) × (found ≡ Ok h) × IsTooLarge h count
-Answers Is IsTooLarge found (Err fault.Memory) = Unit {0}
+Answers Gives IsTooLarge found (Ok answer) = (h : History) × (found ≡ Ok h) × Gives h answer
+Answers Gives IsTooLarge found (Err (Damaged at)) = found ≡ Err at
+Answers Gives IsTooLarge found (Err Failed) = Unit {0}
+Answers Gives IsTooLarge found (Err (TooManyVariables count)) = (h : History) × (found ≡ Ok h) × IsTooLarge h count
+Answers Gives IsTooLarge found (Err Memory) = Unit {0}
+
+-- No problem is made.
+abbrev pub NoProblem : History → ℕ → Type 0
+NoProblem h count = ⊥
+
+-- what a namespace sees of a history
+abbrev pub IsSeen : List ℕ → History → Option View → Type 0
+IsSeen namespace h seen = seen ≡ seen_in h namespace
 
 -- What is decided in a namespace of a history, with no more lemmas than the budget, and the size of its problem where that is above the limit.
 abbrev pub IsDecision : List ℕ → ℕ → History → Answer → Type 0
@@ -29,14 +35,7 @@ IsProblemSize namespace h count = IsAskedIn h namespace (Err (build.TooManyVaria
 -- a call of the disk failed
 abbrev pub file_failed : {T : Type 0} → Result T FileFault → Bool
 file_failed (Ok answer) = false
-file_failed (Err (fault.Damaged at)) = false
-file_failed (Err fault.Failed) = true
-file_failed (Err (fault.TooManyVariables count)) = false
-file_failed (Err fault.Memory) = false
-
--- What a namespace sees of the history that was found.
-abbrev pub Looks : List ℕ → Result History ℕ → Result (Option View) ClusterFault → Type 0
-Looks namespace found (Ok seen) = (h : History) × (found ≡ Ok h) × (seen ≡ seen_in h namespace)
-Looks namespace found (Err store.Failed) = Unit {0}
-Looks namespace found (Err (store.Damaged at)) = found ≡ Err at
-Looks namespace found (Err store.Memory) = Unit {0}
+file_failed (Err (Damaged at)) = false
+file_failed (Err Failed) = true
+file_failed (Err (TooManyVariables count)) = false
+file_failed (Err Memory) = false

@@ -6,8 +6,8 @@ use Rattle.event_runs.specs.Runs as runs
 use Rattle.event_runs.specs.declared.halts.Halt.{Halt}
 use Rattle.log_store.specs.Store.{fits}
 use Rattle.object_store.specs.declared.TheConstants.{WRITE_LIMIT}
-use Rattle.file_commands.specs.declared.running.RunFault.{RunFault}
-use Rattle.file_commands.specs.declared.running.RunFault.TheVariants as fault
+use Rattle.file_commands.specs.declared.faults.RunFault.{RunFault}
+use Rattle.file_commands.specs.declared.faults.RunFault.TheVariants as fault
 
 -- The history that the file stood for, the events, and the history that it stands for afterwards, with what the output held before and holds now, by how the run of the events ended.
 abbrev pub RunsBetween : Bool → runs.Files → Result History ℕ → List Event → Result History ℕ → Option (List ℕ) → Option (List ℕ) → Result Unit Halt → Type 0

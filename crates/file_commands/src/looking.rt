@@ -1,19 +1,17 @@
 // One look at the history in the file of a disk.
-ghost use Rattle.std.specs.Prelude.{◌≡◌, ℕ, true, Result};
+ghost use Rattle.std.specs.Prelude.{◌≡◌, ℕ, true, false, Result, Ok};
 ghost use Rattle.cluster_file.specs.Files.{stands};
 ghost use Rattle.cluster_history.specs.History.{History};
-ghost use Rattle.cluster_commands.specs.Asked.{seen_in};
 ghost use Rattle.olm_io.specs.Outside.{HasCause};
-ghost use Rattle.object_store.specs.Puts.{fault_failed};
 ghost use Rattle.log_store.specs.Store.{store_history};
-ghost use Rattle.file_commands.specs.Answers.{Looks};
+ghost use Rattle.file_commands.specs.Answers.{Answers, IsSeen, NoProblem, file_failed};
 ghost use Rattle.file_commands.specs.Opens.{Opens};
 
-use crate::opening::fault_and_disk;
+use crate::FileFault;
 use cluster_commands::name_of;
 use lent_disk::{Borrow, Handle, Lent};
-use log_store::LogCluster;
-use object_store::{Cluster, ClusterFault, View, WRITE_LIMIT};
+use log_store::{LogCluster, StartFault};
+use object_store::{Cluster, View, WRITE_LIMIT};
 use olm_base::Memory;
 use olm_disk::Disk;
 use std::alloc::Global;
@@ -24,16 +22,19 @@ fn look_at<D: Disk>(
     alloc: Global,
     namespace: &[u8],
     store: &mut LogCluster<D>,
-) -> Result<Option<View>, ClusterFault>
+) -> Result<Option<View>, FileFault>
     requires ready { store.old.ready ≡ true }
-    ensures seen { Looks namespace.now (Ok (store_history (D.tells store.old.disk) (D.content store.old.disk) store.old.writes)) result }
+    ensures seen { Answers (IsSeen namespace.now) NoProblem (Ok (store_history (D.tells store.old.disk) (D.content store.old.disk) store.old.writes)) result }
     ensures same { store.new ≡ store.old }
-    ensures sure { fault_failed result ≡ false }
+    ensures sure { file_failed result ≡ false }
 {
     match name_of(alloc, namespace) {
-        Ok(Some(namespace)) => Ok(Some(store.snapshot(alloc, &namespace)?)),
+        Ok(Some(namespace)) => match store.snapshot(alloc, &namespace) {
+            Ok(view) => Ok(Some(view)),
+            Err(_) => Err(FileFault::Memory),
+        },
         Ok(None) => Ok(None),
-        Err(Memory) => Err(ClusterFault::Memory),
+        Err(Memory) => Err(FileFault::Memory),
     }
 }
 
@@ -42,21 +43,20 @@ fn look_on<D: Disk>(
     alloc: Global,
     namespace: &[u8],
     disk: D,
-) -> (Result<Option<View>, ClusterFault>, D)
-    ensures seen { (found : Result History ℕ) × Opens (D.tells disk) (D.content disk) found × Looks namespace.now found result.0 }
+) -> (Result<Option<View>, FileFault>, D)
+    ensures seen { (found : Result History ℕ) × Opens (D.tells disk) (D.content disk) found × Answers (IsSeen namespace.now) NoProblem found result.0 }
     ensures same { D.tells disk ≡ true → stands (D.content result.1) ≡ stands (D.content disk) }
     ensures tells { D.tells result.1 ≡ D.tells disk }
-    ensures cause { HasCause (D.faults disk) (D.faults result.1) (fault_failed result.0 ≡ true) }
+    ensures cause { HasCause (D.faults disk) (D.faults result.1) (file_failed result.0 ≡ true) }
 {
     match LogCluster::start(alloc, disk, WRITE_LIMIT) {
         Ok(mut store) => {
             let seen = look_at(alloc, namespace, &mut store);
             (seen, store.close())
         }
-        Err(fault) => {
-            let (fault, disk) = fault_and_disk(fault);
-            (Err(fault), disk)
-        }
+        Err(StartFault::Damaged { at, disk }) => (Err(FileFault::Damaged { at }), disk),
+        Err(StartFault::Failed { disk }) => (Err(FileFault::Failed), disk),
+        Err(StartFault::Memory { disk }) => (Err(FileFault::Memory), disk),
     }
 }
 
@@ -65,12 +65,13 @@ fn look_lent<'a, D: Disk, B: Borrow>(
     alloc: Global,
     namespace: &[u8],
     handle: Handle<'a, D>,
-) -> (Result<Option<View>, ClusterFault>, Handle<'a, D>)
+) -> (Result<Option<View>, FileFault>, Handle<'a, D>)
     requires borrow { handle.disk.ghost_name ≡ B.name }
-    ensures seen { (found : Result History ℕ) × Opens (D.tells handle.entry.disk.now) (D.content handle.entry.disk.now) found × Looks namespace.now found result.0 }
+    ensures seen { (found : Result History ℕ) × Opens (D.tells handle.entry.disk.now) (D.content handle.entry.disk.now) found
+        × Answers (IsSeen namespace.now) NoProblem found result.0 }
     ensures same { D.tells handle.entry.disk.now ≡ true → stands (D.content result.1.disk.now) ≡ stands (D.content handle.entry.disk.now) }
     ensures tells { D.tells result.1.disk.now ≡ D.tells handle.entry.disk.now }
-    ensures cause { HasCause (D.faults handle.entry.disk.now) (D.faults result.1.disk.now) (fault_failed result.0 ≡ true) }
+    ensures cause { HasCause (D.faults handle.entry.disk.now) (D.faults result.1.disk.now) (file_failed result.0 ≡ true) }
     ensures same_reference { result.1.disk.ghost_name ≡ handle.entry.disk.ghost_name }
 {
     let (seen, lent) = look_on(alloc, namespace, Lent::<'a, D, B>::new(handle));
@@ -83,11 +84,11 @@ pub(crate) fn look_file<D: Disk>(
     alloc: Global,
     namespace: &[u8],
     disk: &mut D,
-) -> Result<Option<View>, ClusterFault>
-    ensures seen { (found : Result History ℕ) × Opens (D.tells disk.old) (D.content disk.old) found × Looks namespace.now found result }
+) -> Result<Option<View>, FileFault>
+    ensures seen { (found : Result History ℕ) × Opens (D.tells disk.old) (D.content disk.old) found × Answers (IsSeen namespace.now) NoProblem found result }
     ensures same { D.tells disk.old ≡ true → stands (D.content disk.new) ≡ stands (D.content disk.old) }
     ensures tells { D.tells disk.new ≡ D.tells disk.old }
-    ensures cause { HasCause (D.faults disk.old) (D.faults disk.new) (fault_failed result ≡ true) }
+    ensures cause { HasCause (D.faults disk.old) (D.faults disk.new) (file_failed result ≡ true) }
 {
     let (seen, _) = look_lent::<D, Brand>(alloc, namespace, Handle::new(disk));
     seen

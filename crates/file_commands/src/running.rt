@@ -4,43 +4,21 @@ ghost use Rattle.std.specs.List.{list_any};
 ghost use Rattle.cluster_history.specs.History.{History};
 ghost use Rattle.event_script.specs.Ranges.{IsInRange};
 ghost use Rattle.folder_events.specs.Events.{is_of_folder};
-ghost use Rattle.log_store.specs.Starts.{cause_of, disk_of};
 ghost use Rattle.olm_io.specs.Outside.{HasCause};
 ghost use Rattle.file_commands.specs.FileRuns.{FileRuns, disk_failed, folder_failed, output_failed, was_opened};
 ghost use Rattle.file_commands.specs.Opens.{Opens};
 
-use crate::opening::fault_and_disk;
-use event_runs::{Halt, run_events};
+use crate::RunFault;
+use event_runs::run_events;
 use event_script::Event;
 use lent_disk::{Borrow, Handle, Lent};
-use log_store::LogCluster;
-use object_store::{ClusterFault, WRITE_LIMIT};
+use log_store::{LogCluster, StartFault};
+use object_store::WRITE_LIMIT;
 use olm_disk::Disk;
 use olm_folder::Folder;
 use olm_io::Sink;
 use std::alloc::Global;
 use std::marker::Brand;
-
-/// Why a run over a file ends before its events do.
-#[derive(Clone, Copy, Debug, PartialEq, Eq)]
-pub enum RunFault {
-    /// The file stands for no history, from this place on. No event was applied.
-    Damaged { at: u64 },
-    /// A call of the disk failed while the file was opened. No event was applied.
-    Failed,
-    /// Memory ran out while the file was opened. No event was applied.
-    Memory,
-    /// The file was opened, and the run of the events ended for this.
-    Halted(Halt),
-}
-
-fn not_opened(fault: ClusterFault) -> RunFault {
-    match fault {
-        ClusterFault::Damaged { at } => RunFault::Damaged { at },
-        ClusterFault::Failed => RunFault::Failed,
-        ClusterFault::Memory => RunFault::Memory,
-    }
-}
 
 // Runs the events over the file of a disk of its own, and gives the disk back.
 fn run_on<D: Disk, F: Folder, O: Sink>(
@@ -61,14 +39,13 @@ fn run_on<D: Disk, F: Folder, O: Sink>(
     ensures output { HasCause (O.faults out.old) (O.faults out.new) (output_failed result.0 ≡ true) }
 {
     match LogCluster::start(alloc, disk, WRITE_LIMIT) {
-        Ok(mut store) => {
-            let end = run_events(alloc, events, &mut store, folder, out);
-            (end.map_err(RunFault::Halted), store.close())
-        }
-        Err(fault) => {
-            let (fault, disk) = fault_and_disk(fault);
-            (Err(not_opened(fault)), disk)
-        }
+        Ok(mut store) => match run_events(alloc, events, &mut store, folder, out) {
+            Ok(()) => (Ok(()), store.close()),
+            Err(halt) => (Err(RunFault::Halted(halt)), store.close()),
+        },
+        Err(StartFault::Damaged { at, disk }) => (Err(RunFault::Damaged { at }), disk),
+        Err(StartFault::Failed { disk }) => (Err(RunFault::Failed), disk),
+        Err(StartFault::Memory { disk }) => (Err(RunFault::Memory), disk),
     }
 }
 

@@ -1,8 +1,8 @@
 -- A store over a file on a disk: its history, and which writes have place in the file.
-use Rattle.std.specs.Prelude.{ℕ, ◌+◌, ◌^◌, Bool, List, length, nat_le, if◌then◌else◌}
+use Rattle.std.specs.Prelude.{◌≡◌, ℕ, ◌+◌, ◌^◌, Bool, true, List, length, nat_le, None, if◌then◌else◌}
 use Rattle.cluster_objects.specs.declared.objects.Write.{Write}
 use Rattle.cluster_history.specs.History.{History, Start, After}
-use Rattle.cluster_file.specs.Files.{history_in}
+use Rattle.cluster_file.specs.Files.{damage_in, history_in}
 use Rattle.cluster_file.specs.Writing.{history_after, piece}
 
 -- The disk, the most writes that the store takes, the writes that are kept in memory, the place of the last gate behind them, and whether no call has failed since it was opened last.
@@ -16,6 +16,10 @@ pub record LogClusterState (D : Type 0) : Type 0 where
 -- The history is what the file stands for where the disk tells its content, and else that of the kept writes.
 abbrev pub store_history : Bool → List ℕ → List Write → History
 store_history tells content writes = if tells then history_in content else history_after writes
+
+-- Where the disk tells its content, the file isn't damaged.
+abbrev pub IsWhole : Bool → List ℕ → Type 0
+IsWhole tells content = tells ≡ true → damage_in content ≡ None
 
 -- the place of the last gate in the file of a history: behind the header, and behind the piece of each write
 abbrev pub gate_place : History → ℕ

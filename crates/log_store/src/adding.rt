@@ -8,7 +8,7 @@ ghost use Rattle.log_file.specs.Log.{IsLog};
 ghost use Rattle.olm_io.specs.Outside.{HasCause};
 ghost use Rattle.object_store.specs.Puts.{Agrees, Puts, has_room, put_failed};
 ghost use Rattle.log_store.specs.Adds.{Adds, GivesPiece};
-ghost use Rattle.log_store.specs.Store.{fits, has_place};
+ghost use Rattle.log_store.specs.Store.{IsWhole, fits, has_place};
 
 use cluster_file::record_piece;
 use cluster_objects::Write;
@@ -107,6 +107,7 @@ pub(crate) fn keep<D: Disk>(
     requires agrees { Agrees (history_after store.old.1) write }
     requires place { gate + 1 + length bytes.now ≤ 2 ^ 40 }
     ensures adds { Adds (D.tells disk.new) (D.content disk.new) (D.pending disk.new) gate store.old.1 write store.new.1 result }
+    ensures whole { IsWhole (D.tells disk.new) (D.content disk.new) }
     ensures tells { D.tells disk.new ≡ D.tells disk.old }
     ensures cause { HasCause (D.faults disk.old) (D.faults disk.new) (IsErrOf result Outage.Failed) }
 {

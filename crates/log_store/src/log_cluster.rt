@@ -7,7 +7,7 @@ ghost use Rattle.olm_io.specs.Outside.{HasCause};
 ghost use Rattle.object_store.specs.Puts.{Agrees, IsSound, Puts, Reopens, Snapshots, fault_failed, has_room, put_failed};
 ghost use Rattle.log_store.specs.Adds.{PutsOn, is_refused};
 ghost use Rattle.log_store.specs.Starts.{disk_after, told};
-ghost use Rattle.log_store.specs.Store.{fits, has_place, store_history};
+ghost use Rattle.log_store.specs.Store.{IsWhole, fits, has_place, store_history};
 
 use crate::StartFault;
 use crate::adding::{discard, keep, prepared, view_of};
@@ -37,13 +37,13 @@ impl<D: Disk> Model for LogCluster<D> {
     ghost use Rattle.std.specs.Prelude.{◌≤◌};
     ghost use Rattle.log_file.specs.Log.{IsLog};
     ghost use Rattle.object_store.specs.declared.TheConstants.{WRITE_LIMIT};
-    ghost use Rattle.log_store.specs.Store.{LogClusterState};
+    ghost use Rattle.log_store.specs.Store.{IsWhole, LogClusterState};
 
     ghost Value = { LogClusterState D };
 
     ghost view = { λ s. record { disk = s.disk; limit = s.limit; writes = s.store.1; gate = s.gate; ready = s.ready } };
 
-    ghost invariant = { λ s. (s.limit ≤ WRITE_LIMIT) × IsLog (D.tells s.disk) (D.content s.disk) (D.pending s.disk) s.store.1 s.gate s.ready };
+    ghost invariant = { λ s. (s.limit ≤ WRITE_LIMIT) × IsLog (D.tells s.disk) (D.content s.disk) (D.pending s.disk) s.store.1 s.gate s.ready × IsWhole (D.tells s.disk) (D.content s.disk) };
 }
 
 impl<D: Disk> LogCluster<D> {
@@ -73,9 +73,12 @@ impl<D: Disk> LogCluster<D> {
         }
     }
 
-    /// Gives the disk back. It makes no call of it.
+    /// Gives the disk back. It makes no call of it. The file isn't damaged, however the calls of the store ended, and
+    /// the store's history is one.
     pub fn close(self) -> D
-        ensures { result ≡ self.disk }
+        ensures disk { result ≡ self.disk }
+        ensures whole { IsWhole (D.tells result) (D.content result) }
+        ensures still { IsHistory (store_history (D.tells result) (D.content result) self.writes) }
     {
         let LogCluster { disk, .. } = self;
         disk

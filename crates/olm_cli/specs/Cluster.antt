@@ -5,8 +5,8 @@ use Rattle.catalog_choice.specs.declared.deciding.Answer.{Answer}
 use Rattle.cluster_commands.specs.Asked.{IsAskedIn, shown_in}
 use Rattle.cluster_history.specs.History.{History}
 use Rattle.file_commands.specs.Opens.{Opens}
-use Rattle.file_commands.specs.declared.asking.FileFault.{FileFault}
-use Rattle.file_commands.specs.declared.asking.FileFault.TheVariants as fault
+use Rattle.file_commands.specs.declared.faults.FileFault.{FileFault}
+use Rattle.file_commands.specs.declared.faults.FileFault.TheVariants as fault
 use Rattle.problem_build.specs.declared.building.BuildFault.{BuildFault}
 use Rattle.olm_cli.specs.declared.causes.Cause.{Cause}
 use Rattle.olm_cli.specs.declared.causes.Cause.TheVariants.{Damaged, DiskFailed, NoMemory, TooManyVariables}

@@ -9,8 +9,8 @@ use Rattle.event_script.specs.declared.reading.EventFault.{EventFault}
 use Rattle.event_script.specs.declared.reading.EventFault.TheVariants as fault
 use Rattle.file_commands.specs.FileRuns.{FileRuns}
 use Rattle.file_commands.specs.Opens.{Opens}
-use Rattle.file_commands.specs.declared.running.RunFault.{RunFault}
-use Rattle.file_commands.specs.declared.running.RunFault.TheVariants as run
+use Rattle.file_commands.specs.declared.faults.RunFault.{RunFault}
+use Rattle.file_commands.specs.declared.faults.RunFault.TheVariants as run
 use Rattle.json_fields.specs.Faults.{and_then}
 use Rattle.olm_base.specs.Outcome.{Gives}
 use Rattle.olm_io.specs.Outside.{IsTold}

@@ -1,7 +1,7 @@
 // The commands `show` and `decide`.
 ghost use Rattle.std.specs.Prelude.{◌≡◌, ◌≢◌, true, Some};
 ghost use Rattle.cluster_file.specs.Files.{stands};
-ghost use Rattle.file_commands.specs.declared.asking.FileFault.{FileFault};
+ghost use Rattle.file_commands.specs.declared.faults.FileFault.{FileFault};
 ghost use Rattle.olm_io.specs.Outside.{HasCause};
 ghost use Rattle.olm_cli.specs.declared.causes.Cause.{Cause};
 ghost use Rattle.olm_cli.specs.Cluster as spec;

@@ -1,5 +1,5 @@
 // The command `run`.
-ghost use Rattle.std.specs.Prelude.{List, ℕ, ◌≡◌, ◌≢◌, ◌≤◌, length, true, All, Some, IfOk, IfErr, OnOk, IsErrOf};
+ghost use Rattle.std.specs.Prelude.{List, ℕ, ◌≡◌, ◌≢◌, ◌≤◌, length, true, All, Some, Err, IfOk, IfErr, OnOk, IsErrOf};
 ghost use Rattle.std.specs.declared.result.Result.{Result};
 ghost use Rattle.std.specs.Io.KnownBytes.{IsAtEnd};
 ghost use Rattle.cluster_history.specs.History.{History};
@@ -9,6 +9,7 @@ ghost use Rattle.event_script.specs.declared.events.Event.{Event};
 ghost use Rattle.fbc_read.specs.Bodies.{input_limit};
 ghost use Rattle.file_commands.specs.FileRuns.{FileRuns, disk_failed, folder_failed, output_failed};
 ghost use Rattle.file_commands.specs.Opens.{Opens};
+ghost use Rattle.file_commands.specs.declared.faults.RunFault.{RunFault};
 ghost use Rattle.olm_base.specs.Outcome.{Gives};
 ghost use Rattle.olm_io.specs.Outside.{HasCause};
 ghost use Rattle.olm_cli.specs.declared.causes.Cause.{Cause};
@@ -68,7 +69,12 @@ fn read_script<S: Source>(alloc: Global, input: &mut S) -> Result<Many<Event>, C
 }
 
 fn halt_cause(halt: Halt) -> Cause
-    ensures { result ≡ spec.halt_cause halt }
+    ensures cause { result ≡ spec.halt_cause halt }
+    ensures words { result ≢ Cause.BadWords }
+    ensures input { result ≢ Cause.InputFailed }
+    ensures disk { result ≡ Cause.DiskFailed → disk_failed (Err (RunFault.Halted halt)) ≡ true }
+    ensures folder { result ≡ Cause.FolderFailed → folder_failed (Err (RunFault.Halted halt)) ≡ true }
+    ensures output { result ≡ Cause.OutputFailed → output_failed (Err (RunFault.Halted halt)) ≡ true }
 {
     match halt {
         Halt::OutputFailed => Cause::OutputFailed,
@@ -82,7 +88,12 @@ fn halt_cause(halt: Halt) -> Cause
 
 /// How a run ends whose events came to this.
 fn run_end(ended: Result<(), RunFault>) -> Option<Cause>
-    ensures { result ≡ spec.run_end ended }
+    ensures end { result ≡ spec.run_end ended }
+    ensures words { result ≢ Some Cause.BadWords }
+    ensures input { result ≢ Some Cause.InputFailed }
+    ensures disk { result ≡ Some Cause.DiskFailed → disk_failed ended ≡ true }
+    ensures folder { result ≡ Some Cause.FolderFailed → folder_failed ended ≡ true }
+    ensures output { result ≡ Some Cause.OutputFailed → output_failed ended ≡ true }
 {
     match ended {
         Ok(()) => None,

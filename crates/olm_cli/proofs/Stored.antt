@@ -32,7 +32,7 @@ shown_comes Gives namespace lines tells content answer end old new a same ends p
     let given : (h : History) × (a.0 ≡ Ok h) × Gives h answer = a.2 in
     held_comes (FileHolds tells content) (Shows namespace) step end old new (a.0, a.1, refl)
     (value_comes step (Shows namespace) given.0 end old new (ap or_damaged given.1)
-        (record { output = shown_in given.0 namespace; end = None }, refl, ends, subst (λ piece. Puts (not (is_free_end end)) old new piece) (same given.0 given.2) put))
+    (record { output = shown_in given.0 namespace; end = None }, refl, ends, subst (λ piece. Puts (not (is_free_end end)) old new piece) (same given.0 given.2) put))
 
 -- the file gives a cause to stop, or one came that may come at any time
 unopened_comes : (Permits : History → Ran → Type 0) (tells : Bool) (content : List ℕ) (found : Result History ℕ) (cause : Cause) (known : Option (List ℕ))
@@ -81,7 +81,7 @@ undecided_by budget namespace tells content found (fault.TooManyVariables count)
     let step = or_damaged found in
     held_comes (FileHolds tells content) (Decides budget namespace) step (Some (TooManyVariables count)) known known (found, opens, refl)
     (value_comes step (Decides budget namespace) e.0 (Some (TooManyVariables count)) known known (ap or_damaged e.1)
-        (stopped_comes (Decides budget namespace e.0) (TooManyVariables count) known (Err (build.TooManyVariables count), e.2, refl)))
+    (stopped_comes (Decides budget namespace e.0) (TooManyVariables count) known (Err (build.TooManyVariables count), e.2, refl)))
 undecided_by budget namespace tells content found fault.Memory known opens e = unopened_comes (Decides budget namespace) tells content found NoMemory known (a_decided_run budget namespace) opens (λ bound. absurd (let bad : true ≡ false = bound in cc))
 
 pub undecided_comes : (budget : ℕ) (namespace : List ℕ) (tells : Bool) (content : List ℕ) (why : FileFault) (known : Option (List ℕ))

@@ -39,11 +39,7 @@ fn file_cause(fault: FileFault) -> Cause
 }
 
 /// The lines of a namespace's objects.
-fn lines_in<D: Disk>(
-    alloc: Global,
-    namespace: &Text,
-    disk: &mut D,
-) -> Result<Vec<u8>, FileFault>
+fn lines_in<D: Disk>(alloc: Global, namespace: &Text, disk: &mut D) -> Result<Vec<u8>, FileFault>
     ensures lines { (found : Result History ℕ) × Opens (D.tells disk.old) (D.content disk.old) found
         × Answers (λ h lines. lines.items ≡ shown_in h namespace.now) NoProblem found result }
     ensures same { D.tells disk.old ≡ true → stands (D.content disk.new) ≡ stands (D.content disk.old) }

@@ -29,7 +29,7 @@ fn run_on<D: Disk, F: Folder, O: Sink>(
     out: &mut O,
 ) -> (Result<(), RunFault>, D)
     requires ranges { All IsInRange events.now }
-    ensures runs { (found : Result History ℕ) × (left : Result History ℕ) × Opens (D.tells disk) (D.content disk) found × Opens (D.tells disk) (D.content result.1) left
+    ensures runs { (found : Result History ℕ) × (left : Result History ℕ) × Opens (D.tells disk) (D.content disk) found × Opens (D.tells result.1) (D.content result.1) left
         × FileRuns (D.tells disk) (F.held folder.old) found events.now left (O.held out.old) (O.held out.new) result.0 }
     ensures unopened { was_opened result.0 ≡ false → (folder.new ≡ folder.old) × (out.new ≡ out.old) }
     ensures tells { D.tells result.1 ≡ D.tells disk }
@@ -60,7 +60,7 @@ fn run_lent<'a, D: Disk, B: Borrow, F: Folder, O: Sink>(
     requires ranges { All IsInRange events.now }
     requires borrow { handle.disk.ghost_name ≡ B.name }
     ensures runs { (found : Result History ℕ) × (left : Result History ℕ) × Opens (D.tells handle.entry.disk.now) (D.content handle.entry.disk.now) found
-        × Opens (D.tells handle.entry.disk.now) (D.content result.1.disk.now) left
+        × Opens (D.tells result.1.disk.now) (D.content result.1.disk.now) left
         × FileRuns (D.tells handle.entry.disk.now) (F.held folder.old) found events.now left (O.held out.old) (O.held out.new) result.0 }
     ensures unopened { was_opened result.0 ≡ false → (folder.new ≡ folder.old) × (out.new ≡ out.old) }
     ensures tells { D.tells result.1.disk.now ≡ D.tells handle.entry.disk.now }
@@ -85,7 +85,7 @@ pub fn run_file<D: Disk, F: Folder, O: Sink>(
     out: &mut O,
 ) -> Result<(), RunFault>
     requires ranges { All IsInRange events.now }
-    ensures runs { (found : Result History ℕ) × (left : Result History ℕ) × Opens (D.tells disk.old) (D.content disk.old) found × Opens (D.tells disk.old) (D.content disk.new) left
+    ensures runs { (found : Result History ℕ) × (left : Result History ℕ) × Opens (D.tells disk.old) (D.content disk.old) found × Opens (D.tells disk.new) (D.content disk.new) left
         × FileRuns (D.tells disk.old) (F.held folder.old) found events.now left (O.held out.old) (O.held out.new) result }
     ensures unopened { was_opened result ≡ false → (folder.new ≡ folder.old) × (out.new ≡ out.old) }
     ensures tells { D.tells disk.new ≡ D.tells disk.old }

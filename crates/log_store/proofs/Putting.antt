@@ -3,7 +3,7 @@ use Rattle.std.proofs.Common.{◌≡◌, ◌<◌, ◌+◌, ◌⊎◌, inl, inr, 
 use Rattle.std.proofs.lemmas.Bool.{false≢true}
 use Rattle.cluster_objects.specs.declared.objects.Write.{Write}
 use Rattle.cluster_history.specs.History.{Start, After, empty, position}
-use Rattle.cluster_file.specs.Files.{damage_in, damage_of, history_of}
+use Rattle.cluster_file.specs.Files.{damage_in, history_of}
 use Rattle.cluster_file.specs.Writing.{AreWrites, HoldsWrites, history_after, piece}
 use Rattle.cluster_file.proofs.Standing.{written}
 use Rattle.cluster_file.proofs.Walking.{after_all-push}
@@ -18,7 +18,7 @@ use Rattle.olm_io.specs.Outside.{HasCause}
 use Rattle.olm_io.specs.declared.traits.Outage.{Outage}
 use Rattle.olm_io.specs.declared.traits.Outage.TheVariants as outage
 use Rattle.log_store.specs.Adds.{Adds, PutsOn, is_refused}
-use Rattle.log_store.specs.Store.{IsWhole, LogClusterState, fits, has_place, store_history}
+use Rattle.log_store.specs.Store.{LogClusterState, fits, has_place, store_history}
 use Rattle.log_store.proofs.Keeping.{one_more}
 use Rattle.log_store.proofs.Opening.{sound_log}
 use Rattle.log_store.proofs.Places.{has_room-true}
@@ -95,17 +95,6 @@ sound_by_file : (tells : Bool) (content : List ℕ) (pending : Pending) (gate : 
 sound_by_file tells content pending gate ws new w (Ok version) now (more, at, log) ready told is = sound_log tells content pending (ws ++ w ∷ []) (gate + length (piece w 0)) true log told refl
 sound_by_file tells content pending gate ws new w (Err outage.Failed) now adds ready told is = absurd (false≢true (sym ready ∙ is))
 sound_by_file tells content pending gate ws new w (Err outage.Memory) now (same, log) ready told is = sound_log tells content pending ws gate true log told refl
-
--- However a record was added, the file isn't damaged.
-pub whole_by_file : (tells : Bool) (content : List ℕ) (pending : Pending) (gate : ℕ) (ws new : List Write) (w : Write) (result : Result ℕ Outage)
-    → AreWrites ws → record_form.fits w ≡ true → Agrees (history_after ws) w → Adds tells content pending gate ws w new result → IsWhole tells content
-whole_by_file tells content pending gate ws new w (Ok version) are spelled agrees (more, at, log) told =
-    sound_log tells content pending (ws ++ w ∷ []) (gate + length (piece w 0)) true log told refl
-whole_by_file tells content pending gate ws new w (Err outage.Failed) are spelled agrees (same, holds) told = elim (holds told) [
-  | inl old ↦ ap damage_of (written content ws are old)
-  | inr made ↦ ap damage_of (written content (ws ++ w ∷ []) (one_more ws w are spelled agrees) made)
-]
-whole_by_file tells content pending gate ws new w (Err outage.Memory) are spelled agrees (same, log) told = sound_log tells content pending ws gate true log told refl
 
 not_refused : (result : Result ℕ Outage) → is_refused (answer_of result) ≡ true → ⊥
 not_refused (Ok version) e = false≢true e

@@ -93,6 +93,7 @@ fn version_of(appended: Appended) -> u64
 }
 
 // Keeps a write, and adds its record to the file. Where that fails, the write isn't kept. The position of the write.
+#[tactic(auto, using(crate::proofs::Whole::whole_added))]
 pub(crate) fn keep<D: Disk>(
     alloc: Global,
     disk: &mut D,

@@ -50,6 +50,7 @@ impl<D: Disk> LogCluster<D> {
     /// Opens the file of this disk for a store that takes at most so many writes. It begins with a sync. A file of at
     /// most nine bytes is made that of the empty history; nothing else is written. Damaged comes exactly where the file
     /// stands for no history, with the place. What the file stands for is the same afterwards, however this ends.
+    #[tactic(auto, using(crate::proofs::Whole::whole_log))]
     pub fn start(alloc: Global, mut disk: D, limit: u64) -> Result<LogCluster<D>, StartFault<D>>
         requires { limit ≤ WRITE_LIMIT }
         ensures damage { D.tells disk ≡ true → Reopens (damage_in (D.content disk)) (told result) }
@@ -75,6 +76,7 @@ impl<D: Disk> LogCluster<D> {
 
     /// Gives the disk back. It makes no call of it. The file isn't damaged, however the calls of the store ended, and
     /// the store's history is one.
+    #[tactic(auto, using(crate::proofs::Opening::always_history))]
     pub fn close(self) -> D
         ensures disk { result ≡ self.disk }
         ensures whole { IsWhole (D.tells result) (D.content result) }
@@ -175,6 +177,7 @@ impl<D: Disk> Cluster for LogCluster<D> {
     }
 
     /// Reads the file again.
+    #[tactic(auto, using(crate::proofs::Whole::whole_log, crate::proofs::Whole::whole_same))]
     fn reopen(&mut self, alloc: Global) -> Result<(), ClusterFault> {
         match open_file(alloc, &mut self.disk, self.limit) {
             Ok(Opened { store, gate }) => {

@@ -39,7 +39,7 @@ run_stops old new cause held kind still = Stops held.0 cause held.1 held.2 kind 
 
 -- a run that opens the file
 pub run_goes : (old new : World) (events : List Event) (end : Option Cause) (script : Result (List Event) Cause) (found left : Result History ℕ) (ended : Result Unit RunFault)
-    → HoldsScript old.left script → script ≡ Ok events → Opens old.tells old.content found → Opens old.tells new.content left
+    → HoldsScript old.left script → script ≡ Ok events → Opens old.tells old.content found → Opens new.tells new.content left
     → FileRuns old.tells old.files found events left old.out new.out ended → end ≡ run_end ended → RunRuns old new end
 run_goes old new events end script found left ended held e opens leaves runs same =
     subst (λ e. RunRuns old new e) (sym same) (Goes events found left ended (subst (λ s. HoldsScript old.left s) e held) opens leaves runs)

@@ -88,5 +88,5 @@ pub data RunRuns (old new : World) : Option Cause → Type 0 where
       → HoldsScript old.left script → Gives is_free script (Err cause) → is_of_script cause ≡ true
       → IsStill old new → RunRuns old new (Some cause)
   Goes : (events : List Event) (found left : Result History ℕ) (ended : Result Unit RunFault)
-      → HoldsScript old.left (Ok events) → Opens old.tells old.content found → Opens old.tells new.content left
+      → HoldsScript old.left (Ok events) → Opens old.tells old.content found → Opens new.tells new.content left
       → FileRuns old.tells old.files found events left old.out new.out ended → RunRuns old new (run_end ended)

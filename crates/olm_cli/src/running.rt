@@ -113,7 +113,7 @@ fn apply_script<F: Folder, D: Disk, O: Sink>(
     out: &mut O,
 ) -> Option<Cause>
     requires ranges { All IsInRange events.now }
-    ensures run { (found left : Result History ℕ) × (ended : Result Unit RunFault) × Opens (D.tells disk.old) (D.content disk.old) found × Opens (D.tells disk.old) (D.content disk.new) left
+    ensures run { (found left : Result History ℕ) × (ended : Result Unit RunFault) × Opens (D.tells disk.old) (D.content disk.old) found × Opens (D.tells disk.new) (D.content disk.new) left
         × FileRuns (D.tells disk.old) (F.held folder.old) found events.now left (O.held out.old) (O.held out.new) ended × (result ≡ spec.run_end ended) }
     ensures same { F.held folder.new ≡ F.held folder.old }
     ensures tells { D.tells disk.new ≡ D.tells disk.old }

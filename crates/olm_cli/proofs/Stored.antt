@@ -1,8 +1,8 @@
 -- What is shown and decided of a cluster file, and the runs of its events.
 use Rattle.std.proofs.Common.{◌≡◌, ◌∙◌, ℕ, List, [], Bool, true, false, not, refl, sym, ap, subst, Option, Some, None, Result, Ok, Err}
-use Rattle.cluster_commands.specs.Asked.{IsAskedBy, IsAskedIn, shown_in}
+use Rattle.cluster_commands.specs.Asked.{IsAskedBy, IsAskedIn, seen_in, shown_in}
 use Rattle.cluster_history.specs.History.{History}
-use Rattle.catalog_choice.specs.Asking.{name_of}
+use Rattle.cluster_history.specs.Views.{View}
 use Rattle.catalog_choice.specs.declared.deciding.Answer.{Answer}
 use Rattle.file_commands.specs.Answers as file
 use Rattle.file_commands.specs.Opens.{Opens}
@@ -42,24 +42,24 @@ unopened_comes Permits tells content found cause known each opens given =
     held_comes (FileHolds tells content) Permits (or_damaged found) (Some cause) known known (found, opens, refl) (step_comes (or_damaged found) Permits cause known each given)
 
 unshown_by : {T : Type 0} (Gives : History → T → Type 0) (namespace : List ℕ) (tells : Bool) (content : List ℕ) (found : Result History ℕ) (why : FileFault) (known : Option (List ℕ))
-    → Opens tells content found → file.Answers {T} Gives file.NoProblem found (Err why) → Comes (ShowRuns namespace tells content) (Some (file_cause why)) known known
+    → Opens tells content found → file.Answers {T = T} Gives file.NoProblem found (Err why) → Comes (ShowRuns namespace tells content) (Some (file_cause why)) known known
 unshown_by Gives namespace tells content found (fault.Damaged at) known opens e = unopened_comes (Shows namespace) tells content found (Damaged at) known (a_shown_run namespace) opens (λ bound. ap or_damaged e)
 unshown_by Gives namespace tells content found fault.Failed known opens e = unopened_comes (Shows namespace) tells content found DiskFailed known (a_shown_run namespace) opens (λ bound. absurd (let bad : true ≡ false = bound in cc))
 unshown_by Gives namespace tells content found (fault.TooManyVariables count) known opens e = absurd (e.2)
 unshown_by Gives namespace tells content found fault.Memory known opens e = unopened_comes (Shows namespace) tells content found NoMemory known (a_shown_run namespace) opens (λ bound. absurd (let bad : true ≡ false = bound in cc))
 
 pub unshown_comes : {T : Type 0} (Gives : History → T → Type 0) (namespace : List ℕ) (tells : Bool) (content : List ℕ) (why : FileFault) (known : Option (List ℕ))
-    → (found : Result History ℕ) × Opens tells content found × file.Answers {T} Gives file.NoProblem found (Err why)
+    → (found : Result History ℕ) × Opens tells content found × file.Answers {T = T} Gives file.NoProblem found (Err why)
     → Comes (ShowRuns namespace tells content) (Some (file_cause why)) known known
 unshown_comes Gives namespace tells content why known a = unshown_by Gives namespace tells content a.0 why known a.1 a.2
 
 -- memory may run out, whatever is asked
-no_memory_asked : (h : History) (name : Option (List ℕ)) → IsAskedBy h name (Err build.Memory)
-no_memory_asked h (Some name) = tt
-no_memory_asked h None = tt
+no_memory_asked : (seen : Option View) → IsAskedBy seen (Err build.Memory)
+no_memory_asked (Some view) = tt
+no_memory_asked None = tt
 
 a_decided_run : (budget : ℕ) (namespace : List ℕ) (h : History) → (ran : Ran) × Decides budget namespace h ran
-a_decided_run budget namespace h = (answered_run (Err build.Memory), (Err build.Memory, no_memory_asked h (name_of namespace), refl))
+a_decided_run budget namespace h = (answered_run (Err build.Memory), (Err build.Memory, no_memory_asked (seen_in h namespace), refl))
 
 -- the decision over the history that was found is put
 pub decided_comes : (budget : ℕ) (namespace : List ℕ) (answer : Answer) (tells : Bool) (content : List ℕ) (end : Option Cause) (old new : Option (List ℕ))

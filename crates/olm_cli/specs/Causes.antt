@@ -86,6 +86,18 @@ is_answered exit.Unfinished = true
 is_answered exit.Damaged = true
 is_answered exit.Limit = false
 
+-- nothing is put on `err`
+abbrev pub is_silent : Exit → Bool
+is_silent exit.Done = true
+is_silent exit.Refused = false
+is_silent exit.Words = false
+is_silent exit.Input = false
+is_silent exit.Outside = false
+is_silent exit.Memory = false
+is_silent exit.Unfinished = true
+is_silent exit.Damaged = false
+is_silent exit.Limit = false
+
 -- may come while a text is read as a catalog, and once it was
 abbrev pub is_of_text : Cause → Bool
 is_of_text NoChoice = true

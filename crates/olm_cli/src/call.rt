@@ -5,7 +5,7 @@ ghost use Rattle.std.specs.Io.KnownBytes.{IsAtEnd};
 ghost use Rattle.olm_io.specs.Outside.{HasCause, Rose};
 ghost use Rattle.fbc_read.specs.Bodies.{input_limit};
 ghost use Rattle.olm_cli.specs.declared.causes.Cause.{Cause};
-ghost use Rattle.olm_cli.specs.Causes.{HasRisen, is_after_reading, is_answered, status_of};
+ghost use Rattle.olm_cli.specs.Causes.{HasRisen, is_after_reading, is_answered, is_silent, status_of};
 ghost use Rattle.olm_cli.specs.Commands as spec;
 ghost use Rattle.olm_cli.specs.Lines.{Tells};
 ghost use Rattle.olm_cli.specs.Places.{is_folder, is_input};
@@ -55,6 +55,7 @@ fn run_catalog<F: Folder, S: Source, O: Sink>(
 ) -> Option<Cause>
     ensures run { Comes (spec.CatalogRuns (place_view place.entry) (task_view task.entry) (F.held folder.old) (S.left input.old)) result (O.held out.old) (O.held out.new) }
     ensures words { result ≢ Some Cause.BadWords }
+    ensures disk { result ≢ Some Cause.DiskFailed }
     ensures same { F.held folder.new ≡ F.held folder.old }
     ensures folder { HasCause (F.faults folder.old) (F.faults folder.new) (result ≡ Some Cause.FolderFailed) }
     ensures input { HasCause (S.faults input.old) (S.faults input.new) (result ≡ Some Cause.InputFailed) }
@@ -140,6 +141,7 @@ pub fn olmctl<F: Folder, S: Source, D: Disk, O: Sink, E: Sink>(
     ensures untouched_input { spec.reads_input (command_of words.now) ≡ false → input.new ≡ input.old }
     ensures untouched_disk { spec.opens_file (command_of words.now) ≡ false → disk.new ≡ disk.old }
     ensures end { is_answered result ≡ true → spec.reads_input (command_of words.now) ≡ true → IsAtEnd (S.left input.new) }
+    ensures silent { is_silent result ≡ true → err.new ≡ err.old }
     ensures counts { (F.faults folder.old ≤ F.faults folder.new) × (S.faults input.old ≤ S.faults input.new)
         × (D.faults disk.old ≤ D.faults disk.new) × (O.faults out.old ≤ O.faults out.new)
         × (E.faults err.old ≤ E.faults err.new) }

@@ -31,6 +31,7 @@ use std::alloc::Global;
 fn event_cause(fault: EventFault) -> Cause
     ensures cause { result ≡ spec.event_cause fault }
     ensures kind { spec.is_of_script result ≡ true }
+    ensures input { result ≢ Cause.InputFailed }
 {
     match fault {
         EventFault::Stream(found) => Cause::Stream(found),
@@ -47,6 +48,7 @@ fn text_events(alloc: Global, text: &[u8]) -> Result<Many<Event>, Cause>
     ensures answer { Gives is_free (spec.or_event_cause (events_of text.now)) result }
     ensures ranges { IfOk result (λ events. All IsInRange events) }
     ensures kind { IfErr result (λ cause. spec.is_of_script cause ≡ true) }
+    ensures input { IfErr result (λ cause. cause ≢ Cause.InputFailed) }
 {
     match read_events(alloc, text) {
         Ok(events) => Ok(events),

@@ -1,9 +1,10 @@
-use Rattle.std.proofs.Common.{◌≡◌, true, refl, sym, Some, None}
+use Rattle.std.proofs.Common.{◌≡◌, true, refl, sym, subst, Some, None}
 use Rattle.olm_io.specs.Outside.{Rose}
+use Rattle.olm_cli.specs.Causes.{is_silent}
 use Rattle.olm_cli.specs.Commands.{opens_file, reads_folder, reads_input}
 use Rattle.olm_cli.specs.Words.{command_of}
 use Rattle.olm_cli.proofs.Came.{told_as, told_risen}
-use Rattle.olm_cli.proofs.Said.{nothing_tells}
+use Rattle.olm_cli.proofs.Said.{nothing_tells, silent_cause}
 use Rattle.olm_cli.proofs.call.olmctl.Goals as goal
 
 pub returns-in-None-clause-run : goal.returns-in-None-clause-run
@@ -29,3 +30,6 @@ returns-in-Some-clause-run g c =
           (λ e. (ran.of_disk e, ran.disk.rose e)) ran.output.rose,
       c.tell_run-told.ensures.line,
     )
+
+pub returns-in-Some-clause-silent : goal.returns-in-Some-clause-silent
+returns-in-Some-clause-silent g c = λ e. c.tell_run-told.ensures.silent (silent_cause c.tell_run-told.result (subst (λ x. is_silent x ≡ true) c.exit_of.ensures e))

@@ -48,10 +48,10 @@ unshown_by Gives namespace tells content found fault.Failed known opens e = unop
 unshown_by Gives namespace tells content found (fault.TooManyVariables count) known opens e = absurd (e.2)
 unshown_by Gives namespace tells content found fault.Memory known opens e = unopened_comes (Shows namespace) tells content found NoMemory known (a_shown_run namespace) opens (λ bound. absurd (let bad : true ≡ false = bound in cc))
 
-pub unshown_comes : {T : Type 0} (Gives : History → T → Type 0) (namespace : List ℕ) (tells : Bool) (content : List ℕ) (why : FileFault) (known : Option (List ℕ))
+pub unshown_comes : {T : Type 0} (answer : Result T FileFault) (Gives : History → T → Type 0) (namespace : List ℕ) (tells : Bool) (content : List ℕ) (why : FileFault) (known : Option (List ℕ))
     → (found : Result History ℕ) × Opens tells content found × file.Answers {T = T} Gives file.NoProblem found (Err why)
     → Comes (ShowRuns namespace tells content) (Some (file_cause why)) known known
-unshown_comes Gives namespace tells content why known a = unshown_by Gives namespace tells content a.0 why known a.1 a.2
+unshown_comes answer Gives namespace tells content why known a = unshown_by Gives namespace tells content a.0 why known a.1 a.2
 
 -- memory may run out, whatever is asked
 no_memory_asked : (seen : Option View) → IsAskedBy seen (Err build.Memory)

@@ -23,4 +23,4 @@ returns-in-Err-clause-run g c =
     let tells = g.D.Disk.tells c.args.disk.now in
     let content = g.D.Disk.content c.args.disk.now in
     subst (λ cause. Comes (ShowRuns namespace tells content) (Some cause) known known) (sym c.file_cause.ensures.cause)
-    (unshown_comes (λ h lines. lines.items ≡ shown_in h namespace) namespace tells content c.in-Err.fault known c.in-Err.ensures.lines)
+    (unshown_comes c.lines_in.result (λ h lines. lines.items ≡ shown_in h namespace) namespace tells content c.in-Err.fault known c.in-Err.ensures.lines)

@@ -1,7 +1,8 @@
 #!/bin/sh
 # Runs the built program once for each folder of examples/runs, in a copy of the run's data/, and compares the status, what is
 # put on `out`, and the first line on `err` with the files there. The files are named as those beside a program's src/: args
-# (a word a line), stdin, stdout, stderr, status; one that is missing is empty, or 0. Then two runs at the limit of the input.
+# (a word a line), stdin, stdout, stderr, status; one that is missing is empty, or 0. Where there is a file `before`, its events are
+# run first, so that there is a cluster file. Then the example of a cluster, and two runs at the limit of the input.
 # Run it after `rt run` in crates/olmctl, or with the program's path as its argument.
 set -eu
 top=$(cd "$(dirname "$0")/.." && pwd)
@@ -22,6 +23,7 @@ for run in "$top"/examples/runs/*/; do
         if [ -f "$run/$part" ]; then cp "$run/$part" "$here/$part"; else : > "$here/$part"; fi
     done
     [ ! -d "$run/data" ] || cp -r "$run/data/." "$here/folder"
+    [ ! -f "$run/before" ] || (cd "$here/folder" && exec "$program" run) < "$run/before" > /dev/null
     set --
     while IFS= read -r word || [ -n "$word" ]; do set -- "$@" "$word"; done < "$run/args"
     status=0
@@ -31,6 +33,16 @@ for run in "$top"/examples/runs/*/; do
     cmp -s "$here/out" "$here/stdout" || wrong="$wrong out"
     [ "$(head -n 1 "$here/err")" = "$(cat "$here/stderr")" ] || wrong="$wrong err"
     result "$name" "$wrong"
+done
+cluster=$work/cluster
+cp -r "$top/examples/cluster" "$cluster"
+for printed in run show decide; do # the events are run, and then the namespace `default` is shown and decided
+    set -- "$printed"
+    [ "$printed" = run ] || set -- "$printed" default
+    wrong=
+    (cd "$cluster" && exec "$program" "$@") < "$cluster/events.json" > "$work/out" || wrong=" status $?"
+    cmp -s "$work/out" "$cluster/$printed.txt" || wrong="$wrong out"
+    result "cluster $printed" "$wrong"
 done
 bytes_of_spaces() { # that many spaces are a stream without blobs, up to the limit of the input
     status=0

@@ -1,13 +1,11 @@
 -- What a call comes to that puts nothing.
-use Rattle.std.proofs.Common.{◌≡◌, ◌∙◌, ℕ, List, [], append-nil, Bool, true, false, not, refl, sym, subst, Option, Some, None, Result, Ok, Err, inl, inr, ◌⊎◌}
+use Rattle.std.proofs.Common.{◌≡◌, ◌∙◌, ℕ, List, [], ap, Bool, true, false, not, refl, sym, subst, Option, Some, None, Result, Ok, Err, inl, inr, ◌⊎◌}
 use Rattle.std.proofs.lemmas.Bool.{cases_Bool}
-use Rattle.std.specs.Io.KnownBytes.{Appends}
-use Rattle.olm_io.specs.Outside.{AppendsFront, Puts}
 use Rattle.olm_io.proofs.Told.{puts_nothing}
 use Rattle.olm_cli.specs.declared.causes.Cause.{Cause}
-use Rattle.olm_cli.specs.declared.causes.Cause.TheVariants.{FolderFailed, InputFailed, OutputFailed, NoMemory}
+use Rattle.olm_cli.specs.declared.causes.Cause.TheVariants.{FolderFailed, InputFailed, DiskFailed, OutputFailed, NoMemory}
 use Rattle.olm_cli.specs.Causes.{is_free, is_free_end, HasRisen}
-use Rattle.olm_cli.specs.Commands.{CatalogRuns, TaskRuns}
+use Rattle.olm_cli.specs.Commands.{CatalogRuns, IsToldAs, TaskRuns}
 use Rattle.olm_cli.specs.Places.{Holds}
 use Rattle.olm_cli.specs.Words.{Place, Task}
 use Rattle.olm_cli.specs.Runs.{Ran, stopped, After, AfterHeld, Comes}
@@ -38,33 +36,22 @@ step_comes step Permits cause known each given =
 pub value_comes : {T : Type 0} (step : Result T Cause) (Permits : T → Ran → Type 0) (value : T) (end : Option Cause) (old new : Option (List ℕ)) → step ≡ Ok value → Comes (Permits value) end old new → Comes (After step Permits) end old new
 value_comes step Permits value end old new e came = (came.0, subst (λ r. After r Permits came.0) (sym e) came.1, came.2, came.3)
 
--- what was put whole was put up to some place
-whole_front : (old new : Option (List ℕ)) (piece : List ℕ) → Appends old new piece → AppendsFront old new piece
-whole_front None new piece p = tt
-whole_front (Some xs) None piece p = p
-whole_front (Some xs) (Some ys) piece p = (piece, [], sym (append-nil piece), p)
-
-some_front : (done : Bool) (old new : Option (List ℕ)) (piece : List ℕ) → Puts done old new piece → AppendsFront old new piece
-some_front true old new piece p = whole_front old new piece p
-some_front false old new piece p = p
-
--- the run ended so, or there was no memory to tell it
-pub told_comes : (Permits : Ran → Type 0) (cause told : Cause) (old new : Option (List ℕ)) → (told ≡ cause) ⊎ (told ≡ NoMemory) → Comes Permits (Some cause) old new → Comes Permits (Some told) old new
-told_comes Permits cause told old new (inl same) came = subst (λ t. Comes Permits (Some t) old new) (sym same) came
-told_comes Permits cause told old new (inr none) came =
-    subst (λ t. Comes Permits (Some t) old new) (sym none)
-    (came.0, came.1, (λ bound. absurd (let bad : true ≡ false = bound in cc)), some_front (not (is_free_end (Some cause))) old new (came.0).output came.3)
-
 -- the count rose of what the cause names
-risen_for : (Folder Input Output : Type 0) (cause : Cause) → (Some cause ≡ Some FolderFailed → Folder) → (Some cause ≡ Some InputFailed → Input) → (Some cause ≡ Some OutputFailed → Output) → HasRisen Folder Input Output (Some cause)
-risen_for Folder Input Output FolderFailed folder input output = folder refl
-risen_for Folder Input Output InputFailed folder input output = input refl
-risen_for Folder Input Output OutputFailed folder input output = output refl
-risen_for Folder Input Output _ folder input output = tt
+risen_for : (Folder Input Disk Output : Type 0) (cause : Cause) → (Some cause ≡ Some FolderFailed → Folder) → (Some cause ≡ Some InputFailed → Input) → (Some cause ≡ Some DiskFailed → Disk) → (Some cause ≡ Some OutputFailed → Output) → HasRisen Folder Input Disk Output (Some cause)
+risen_for Folder Input Disk Output FolderFailed folder input disk output = folder refl
+risen_for Folder Input Disk Output InputFailed folder input disk output = input refl
+risen_for Folder Input Disk Output DiskFailed folder input disk output = disk refl
+risen_for Folder Input Disk Output OutputFailed folder input disk output = output refl
+risen_for Folder Input Disk Output _ folder input disk output = tt
 
-pub told_risen : (Folder Input Output : Type 0) (cause told : Cause) → (told ≡ cause) ⊎ (told ≡ NoMemory) → (Some cause ≡ Some FolderFailed → Folder) → (Some cause ≡ Some InputFailed → Input) → (Some cause ≡ Some OutputFailed → Output) → HasRisen Folder Input Output (Some told)
-told_risen Folder Input Output cause told (inl same) folder input output = subst (λ t. HasRisen Folder Input Output (Some t)) (sym same) (risen_for Folder Input Output cause folder input output)
-told_risen Folder Input Output cause told (inr none) folder input output = subst (λ t. HasRisen Folder Input Output (Some t)) (sym none) tt
+pub told_risen : (Folder Input Disk Output : Type 0) (cause told : Cause) → (told ≡ cause) ⊎ (told ≡ NoMemory) → (Some cause ≡ Some FolderFailed → Folder) → (Some cause ≡ Some InputFailed → Input) → (Some cause ≡ Some DiskFailed → Disk) → (Some cause ≡ Some OutputFailed → Output) → HasRisen Folder Input Disk Output (Some told)
+told_risen Folder Input Disk Output cause told (inl same) folder input disk output = subst (λ t. HasRisen Folder Input Disk Output (Some t)) (sym same) (risen_for Folder Input Disk Output cause folder input disk output)
+told_risen Folder Input Disk Output cause told (inr none) folder input disk output = subst (λ t. HasRisen Folder Input Disk Output (Some t)) (sym none) tt
+
+-- the cause is told, or that there is no memory to tell it
+pub told_as : (cause told : Cause) → (told ≡ cause) ⊎ (told ≡ NoMemory) → IsToldAs (Some cause) (Some told)
+told_as cause told (inl same) = inl (ap (λ t. Some t) same)
+told_as cause told (inr none) = inr (ap (λ t. Some t) none)
 
 -- a run over what a place holds is a run of the command
 pub placed_comes : (place : Place) (task : Task) (files : Option (List (List ℕ × List ℕ))) (left : Option (List ℕ)) (found : Result (List ℕ) Cause) (end : Option Cause) (old new : Option (List ℕ)) → Holds place files left found → Comes (After found (TaskRuns task)) end old new → Comes (CatalogRuns place task files left) end old new

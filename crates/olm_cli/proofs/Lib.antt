@@ -3,5 +3,7 @@ mod Digits
 mod Listings
 mod Resolved
 mod Said
+mod Scripts
+mod Stored
 mod Tasks
 mod Verified

@@ -1,11 +1,14 @@
 pub mod Causes
 pub mod Checking
+pub mod Cluster
 pub mod Commands
 pub mod Graph
 pub mod Lines
 pub mod Places
 pub mod Reading
 pub mod Resolving
+pub mod Running
 pub mod Runs
 pub mod Verifying
 pub mod Words
+pub mod Worlds

@@ -6,7 +6,7 @@ use Rattle.fbc_read.specs.Bodies.{IsBody, input_limit}
 use Rattle.fbc_read.specs.declared.bodies.BodyFault.{BodyFault}
 use Rattle.fbc_read.specs.declared.bodies.BodyFault.TheVariants.{Folder, Yaml, Split, Memory}
 use Rattle.olm_cli.specs.declared.causes.Cause.{Cause}
-use Rattle.olm_cli.specs.declared.causes.Cause.TheVariants.{FolderFailed, InputFailed, FileNotRead, SplitFile, NoMemory, TooLong}
+use Rattle.olm_cli.specs.declared.causes.Cause.TheVariants.{NoChoice, NotAccepted, BrokenRules, NoChannel, BadWords, Stream, SplitFile, FileNotRead, Field, NoEvent, UnknownEvent, FolderFailed, InputFailed, DiskFailed, OutputFailed, NoMemory, BudgetSpent, Damaged, TooLong, TooManyVariables, StoreFull}
 use Rattle.olm_cli.specs.Words.{Place, Input, Below}
 
 -- an input, where it isn't too long
@@ -47,15 +47,47 @@ is_folder (Below path) = true
 
 -- may come while the input is read, and while the folder is
 abbrev pub is_of_input : Cause → Bool
+is_of_input NoChoice = false
+is_of_input NotAccepted = false
+is_of_input BrokenRules = false
+is_of_input NoChannel = false
+is_of_input BadWords = false
+is_of_input (Stream fault) = false
+is_of_input (SplitFile path fault) = false
+is_of_input (FileNotRead path) = false
+is_of_input (Field blob path kind) = false
+is_of_input (NoEvent blob) = false
+is_of_input (UnknownEvent blob) = false
+is_of_input FolderFailed = false
 is_of_input InputFailed = true
+is_of_input DiskFailed = false
+is_of_input OutputFailed = false
 is_of_input NoMemory = true
+is_of_input BudgetSpent = false
+is_of_input (Damaged at) = false
 is_of_input TooLong = true
-is_of_input _ = false
+is_of_input (TooManyVariables count) = false
+is_of_input StoreFull = false
 
 abbrev pub is_of_folder : Cause → Bool
-is_of_folder FolderFailed = true
-is_of_folder (FileNotRead path) = true
+is_of_folder NoChoice = false
+is_of_folder NotAccepted = false
+is_of_folder BrokenRules = false
+is_of_folder NoChannel = false
+is_of_folder BadWords = false
+is_of_folder (Stream fault) = false
 is_of_folder (SplitFile path fault) = true
+is_of_folder (FileNotRead path) = true
+is_of_folder (Field blob path kind) = false
+is_of_folder (NoEvent blob) = false
+is_of_folder (UnknownEvent blob) = false
+is_of_folder FolderFailed = true
+is_of_folder InputFailed = false
+is_of_folder DiskFailed = false
+is_of_folder OutputFailed = false
 is_of_folder NoMemory = true
+is_of_folder BudgetSpent = false
+is_of_folder (Damaged at) = false
 is_of_folder TooLong = true
-is_of_folder _ = false
+is_of_folder (TooManyVariables count) = false
+is_of_folder StoreFull = false

@@ -1,7 +1,7 @@
 -- The words of the command line, and the commands that they stand for.
 use Rattle.std.specs.Prelude.{ℕ, ◌+◌, ◌*◌, ◌-◌, ◌==◌, ◌&&◌, not, nat_eq, nat_le, List, [], ◌∷◌, take, drop, codes, Bool, false, if◌then◌else◌, Option, Some, None}
 use Rattle.std.specs.Char.{is_ascii_digit}
-use Rattle.std.specs.Option.{option_and_then}
+use Rattle.std.specs.Option.{option_and_then, option_map}
 use Rattle.std.specs.Cmp.Lexicographic.{pointwise}
 use Rattle.olm_cli.specs.declared.words.Command.{Command as CommandWords}
 use Rattle.olm_cli.specs.declared.words.Command.TheVariants as words
@@ -25,6 +25,9 @@ pub data Command : Type 0 where
   Help : Command
   OnCatalog : Place → Task → Command
   Verify : (path package_name channel : List ℕ) → Command
+  Run : Command
+  Show : (namespace : List ℕ) → Command
+  Decide : (budget : ℕ) (namespace : List ℕ) → Command
 
 -- the budget where the words name none, and the greatest one
 abbrev pub default_budget : ℕ
@@ -47,6 +50,9 @@ abbrev pub command_view : CommandWords → Command
 command_view words.Help = Help
 command_view (words.OnCatalog place task) = OnCatalog (place_view place) (task_view task)
 command_view (words.Verify path names) = Verify path.now names.package_name.now names.channel.now
+command_view words.Run = Run
+command_view (words.Show namespace) = Show namespace.now
+command_view (words.Decide budget namespace) = Decide budget namespace.now
 
 -- a word that is no option, and not empty
 abbrev pub is_plain : List ℕ → Bool
@@ -91,18 +97,18 @@ budget_of (first ∷ digits) = if first == 48 then None else number_after 0 (fir
 abbrev pub budget_text : List ℕ → Option (List ℕ)
 budget_text word = if pointwise nat_eq (take 9 word) (codes "--budget=") then Some (drop 9 word) else None
 
-abbrev pub resolve_by : Option ℕ → List (List ℕ) → Option Command
-resolve_by None words = None
-resolve_by (Some budget) words = resolve_within budget words
+abbrev pub budget_first_by : Option (List ℕ) → List ℕ → List (List ℕ) → Option (ℕ × List (List ℕ))
+budget_first_by None word words = Some (default_budget, word ∷ words)
+budget_first_by (Some digits) word words = option_map (λ budget. (budget, words)) (budget_of digits)
 
-abbrev pub resolve_behind : Option (List ℕ) → List ℕ → List (List ℕ) → Option Command
-resolve_behind None word words = resolve_within default_budget (word ∷ words)
-resolve_behind (Some digits) word words = resolve_by (budget_of digits) words
+-- `[--budget=N]` and a form: the budget, and the words of the form
+abbrev pub budget_first : List (List ℕ) → Option (ℕ × List (List ℕ))
+budget_first [] = Some (default_budget, [])
+budget_first (word ∷ words) = budget_first_by (budget_text word) word words
 
 -- `[--budget=N] PATH PACKAGE CHANNEL`
 abbrev pub resolve_of : List (List ℕ) → Option Command
-resolve_of [] = None
-resolve_of (word ∷ words) = resolve_behind (budget_text word) word words
+resolve_of words = option_and_then (λ found. resolve_within found.0 found.1) (budget_first words)
 
 -- `PATH PACKAGE CHANNEL`, where the input is no place
 abbrev pub verify_of : List (List ℕ) → Option Command
@@ -110,18 +116,46 @@ verify_of (path ∷ package_name ∷ channel ∷ []) =
     if is_plain path && is_plain package_name && is_plain channel then Some (Verify path package_name channel) else None
 verify_of words = None
 
+-- no more words
+abbrev pub run_of : List (List ℕ) → Option Command
+run_of [] = Some Run
+run_of words = None
+
+-- `NAMESPACE`
+abbrev pub show_of : List (List ℕ) → Option Command
+show_of (namespace ∷ []) = if is_plain namespace then Some (Show namespace) else None
+show_of words = None
+
+abbrev pub decide_within : ℕ → List (List ℕ) → Option Command
+decide_within budget (namespace ∷ []) = if is_plain namespace then Some (Decide budget namespace) else None
+decide_within budget words = None
+
+-- `[--budget=N] NAMESPACE`
+abbrev pub decide_of : List (List ℕ) → Option Command
+decide_of words = option_and_then (λ found. decide_within found.0 found.1) (budget_first words)
+
 -- the one word `--help`
 abbrev pub help_of : List (List ℕ) → Option Command
 help_of [] = Some Help
 help_of words = None
 
 -- The first word names the command, and the others must have its form. Other words are no command.
-abbrev pub command_of : List (List ℕ) → Option Command
-command_of [] = None
-command_of (name ∷ words) =
+abbrev pub catalog_command_of : List ℕ → List (List ℕ) → Option Command
+catalog_command_of name words =
     if pointwise nat_eq name (codes "check") then check_of words
     else if pointwise nat_eq name (codes "graph") then graph_of words
     else if pointwise nat_eq name (codes "resolve") then resolve_of words
     else if pointwise nat_eq name (codes "verify") then verify_of words
-    else if pointwise nat_eq name (codes "--help") then help_of words
     else None
+
+abbrev pub named_command_of : List ℕ → List (List ℕ) → Option Command
+named_command_of name words =
+    if pointwise nat_eq name (codes "run") then run_of words
+    else if pointwise nat_eq name (codes "show") then show_of words
+    else if pointwise nat_eq name (codes "decide") then decide_of words
+    else if pointwise nat_eq name (codes "--help") then help_of words
+    else catalog_command_of name words
+
+abbrev pub command_of : List (List ℕ) → Option Command
+command_of [] = None
+command_of (name ∷ words) = named_command_of name words

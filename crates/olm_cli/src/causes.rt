@@ -15,15 +15,18 @@ pub enum Exit {
     Refused,
     /// Status 2: the words are no command line of this program.
     Words,
-    /// Status 3: the input or the folder isn't a catalog.
+    /// Status 3: the input or the folder isn't a catalog, or the input isn't a list of events.
     Input,
-    /// Status 4: a call of the folder, the input or the output failed.
+    /// Status 4: a call of the folder, the input, the disk or the output failed.
     Outside,
     /// Status 5: memory ran out.
     Memory,
     /// Status 6: the budget was spent before there was a decision.
     Unfinished,
-    /// Status 8: the input, or the folder's files together, are longer than the limit, or the problem is larger.
+    /// Status 7: the cluster file stands for no history.
+    Damaged,
+    /// Status 8: the input, or the folder's files together, are longer than the limit, the problem is larger, or the
+    /// cluster file has no room for a write.
     Limit,
 }
 
@@ -58,22 +61,38 @@ pub enum Cause {
         path: Text,
         kind: FieldKind,
     },
+    /// The blob of this number names no event, and is no object to be applied.
+    NoEvent {
+        blob: u32,
+    },
+    /// The blob of this number names an event that there isn't.
+    UnknownEvent {
+        blob: u32,
+    },
     /// A call of the folder failed.
     FolderFailed,
     /// A call of the input failed.
     InputFailed,
+    /// A call of the disk failed.
+    DiskFailed,
     /// A call of the output failed.
     OutputFailed,
     /// Memory ran out.
     NoMemory,
     /// The budget was spent before there was a decision.
     BudgetSpent,
+    /// The cluster file stands for no history, from this place on.
+    Damaged {
+        at: u64,
+    },
     /// The input, or the folder's files together, are longer than the limit.
     TooLong,
     /// The problem has so many variables, or one of them so many constraints, and that is above the limit.
     TooManyVariables {
         count: u64,
     },
+    /// The cluster file has no room for an event's write.
+    StoreFull,
 }
 
 /// The status of a run that ended so.
@@ -85,11 +104,13 @@ pub fn exit_of(cause: &Cause) -> Exit
         Cause::BrokenRules | Cause::NoChannel => Exit::Refused,
         Cause::BadWords => Exit::Words,
         Cause::Stream(_) | Cause::SplitFile { .. } | Cause::FileNotRead { .. } => Exit::Input,
-        Cause::Field { .. } => Exit::Input,
-        Cause::FolderFailed | Cause::InputFailed | Cause::OutputFailed => Exit::Outside,
+        Cause::Field { .. } | Cause::NoEvent { .. } | Cause::UnknownEvent { .. } => Exit::Input,
+        Cause::FolderFailed | Cause::InputFailed => Exit::Outside,
+        Cause::DiskFailed | Cause::OutputFailed => Exit::Outside,
         Cause::NoMemory => Exit::Memory,
         Cause::BudgetSpent => Exit::Unfinished,
-        Cause::TooLong | Cause::TooManyVariables { .. } => Exit::Limit,
+        Cause::Damaged { .. } => Exit::Damaged,
+        Cause::TooLong | Cause::TooManyVariables { .. } | Cause::StoreFull => Exit::Limit,
     }
 }
 
@@ -105,6 +126,7 @@ pub fn status(exit: Exit) -> u8
         Exit::Outside => 4,
         Exit::Memory => 5,
         Exit::Unfinished => 6,
+        Exit::Damaged => 7,
         Exit::Limit => 8,
     }
 }

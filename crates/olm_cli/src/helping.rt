@@ -18,6 +18,7 @@ pub fn print_help<O: Sink>(alloc: Global, out: &mut O) -> Option<Cause>
     ensures words { result ≢ Some Cause.BadWords }
     ensures folder { result ≢ Some Cause.FolderFailed }
     ensures input { result ≢ Some Cause.InputFailed }
+    ensures disk { result ≢ Some Cause.DiskFailed }
     ensures output { HasCause (O.faults out.old) (O.faults out.new) (result ≡ Some Cause.OutputFailed) }
 {
     match help_text(alloc) {

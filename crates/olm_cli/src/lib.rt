@@ -9,6 +9,7 @@
 mod call;
 mod causes;
 mod checking;
+mod cluster;
 mod graph;
 mod helping;
 mod lines;
@@ -16,6 +17,7 @@ mod places;
 mod printing;
 mod reading;
 mod resolving;
+mod running;
 mod telling;
 mod verifying;
 mod words;

@@ -6,7 +6,7 @@ ghost use Rattle.olm_cli.specs.Lines as spec;
 
 use crate::causes::Cause;
 use catalog_stream::StreamFault;
-use fault_words::{put_field, put_number, put_split, put_stream, put_unread};
+use fault_words::{put_field, put_number, put_of_blob, put_split, put_stream, put_unread};
 use olm_base::{FieldKind, Memory, Text};
 use olm_io::{Outage, Sink};
 use std::alloc::Global;
@@ -69,6 +69,33 @@ fn variables_line(alloc: Global, count: u64) -> Result<Vec<u8>, Memory>
     Ok(bytes)
 }
 
+fn no_event_line(alloc: Global, blob: u32) -> Result<Vec<u8>, Memory>
+    ensures { IfOk result (λ line. line.items ≡ spec.line_of (Cause.NoEvent blob)) }
+{
+    let mut bytes = Vec::from_slice(alloc, b"olmctl: ")?;
+    put_of_blob(&mut bytes, alloc, blob, b"no event")?;
+    bytes.push(b'\n')?;
+    Ok(bytes)
+}
+
+fn unknown_event_line(alloc: Global, blob: u32) -> Result<Vec<u8>, Memory>
+    ensures { IfOk result (λ line. line.items ≡ spec.line_of (Cause.UnknownEvent blob)) }
+{
+    let mut bytes = Vec::from_slice(alloc, b"olmctl: ")?;
+    put_of_blob(&mut bytes, alloc, blob, b"unknown event")?;
+    bytes.push(b'\n')?;
+    Ok(bytes)
+}
+
+fn damaged_line(alloc: Global, at: u64) -> Result<Vec<u8>, Memory>
+    ensures { IfOk result (λ line. line.items ≡ spec.line_of (Cause.Damaged at)) }
+{
+    let mut bytes = Vec::from_slice(alloc, b"olmctl: damaged at ")?;
+    put_number(&mut bytes, alloc, at)?;
+    bytes.push(b'\n')?;
+    Ok(bytes)
+}
+
 /// The line of a cause: it stands in the program, or it is made of the cause's parts.
 #[derive(Drop)]
 enum Line {
@@ -103,13 +130,18 @@ fn line_of(alloc: Global, cause: &Cause) -> Result<Line, Memory>
         Cause::Field { blob, path, kind } => {
             Ok(Line::Made(field_line(alloc, *blob, path, *kind)?))
         }
+        Cause::NoEvent { blob } => Ok(Line::Made(no_event_line(alloc, *blob)?)),
+        Cause::UnknownEvent { blob } => Ok(Line::Made(unknown_event_line(alloc, *blob)?)),
         Cause::FolderFailed => Ok(Line::Fixed(b"olmctl: folder failed\n")),
         Cause::InputFailed => Ok(Line::Fixed(b"olmctl: input failed\n")),
+        Cause::DiskFailed => Ok(Line::Fixed(b"olmctl: disk failed\n")),
         Cause::OutputFailed => Ok(Line::Fixed(b"olmctl: output failed\n")),
         Cause::NoMemory => Ok(Line::Fixed(b"olmctl: out of memory\n")),
         Cause::BudgetSpent => Ok(Line::Fixed(b"")),
+        Cause::Damaged { at } => Ok(Line::Made(damaged_line(alloc, *at)?)),
         Cause::TooLong => Ok(Line::Fixed(b"olmctl: limit 67108864\n")),
         Cause::TooManyVariables { count } => Ok(Line::Made(variables_line(alloc, *count)?)),
+        Cause::StoreFull => Ok(Line::Fixed(b"olmctl: store full\n")),
     }
 }
 

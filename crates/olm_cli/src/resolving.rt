@@ -19,7 +19,7 @@ use problem_build::BuildFault;
 use std::alloc::Global;
 
 /// How a run with this decision ends.
-fn ended(decided: Decided) -> Option<Cause>
+pub fn ended(decided: Decided) -> Option<Cause>
     ensures end { result ≡ spec.ended decided }
     ensures bound { is_free_end result ≡ false }
     ensures kind { is_after_reading result ≡ true }

@@ -39,6 +39,7 @@ pub fn tell_run<E: Sink>(alloc: Global, words: &[Text], cause: Cause, err: &mut 
     ensures line { spec.Tells (Some result) (E.held err.old) (E.held err.new) }
     ensures cause { (result ≡ cause) ⊎ (result ≡ Cause.NoMemory) }
     ensures words { cause ≡ Cause.BadWords → result ≡ Cause.BadWords }
+    ensures silent { result ≡ Cause.BudgetSpent → err.new ≡ err.old }
     ensures count { E.faults err.old ≤ E.faults err.new }
 {
     match cause {
@@ -46,6 +47,7 @@ pub fn tell_run<E: Sink>(alloc: Global, words: &[Text], cause: Cause, err: &mut 
             tell_words(alloc, words, err);
             Cause::BadWords
         }
+        Cause::BudgetSpent => Cause::BudgetSpent,
         other => tell_cause(alloc, other, err),
     }
 }

@@ -105,6 +105,7 @@ fn verify_input<S: Source, O: Sink>(
     requires text { length text ≤ input_limit }
     ensures run { Comes (spec.InputRuns names.entry.package_name.now names.entry.channel.now (S.left input.old) text) result (O.held out.old) (O.held out.new) }
     ensures words { result ≢ Some Cause.BadWords }
+    ensures disk { result ≢ Some Cause.DiskFailed }
     ensures folder { result ≢ Some Cause.FolderFailed }
     ensures input { HasCause (S.faults input.old) (S.faults input.new) (result ≡ Some Cause.InputFailed) }
     ensures output { HasCause (O.faults out.old) (O.faults out.new) (result ≡ Some Cause.OutputFailed) }
@@ -157,6 +158,7 @@ pub fn verify<F: Folder, S: Source, O: Sink>(
 ) -> Option<Cause>
     ensures run { Comes (spec.VerifyRuns path.now names.entry.package_name.now names.entry.channel.now (F.held folder.old) (S.left input.old)) result (O.held out.old) (O.held out.new) }
     ensures words { result ≢ Some Cause.BadWords }
+    ensures disk { result ≢ Some Cause.DiskFailed }
     ensures same { F.held folder.new ≡ F.held folder.old }
     ensures folder { HasCause (F.faults folder.old) (F.faults folder.new) (result ≡ Some Cause.FolderFailed) }
     ensures input { HasCause (S.faults input.old) (S.faults input.new) (result ≡ Some Cause.InputFailed) }

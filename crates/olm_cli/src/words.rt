@@ -55,6 +55,24 @@ pub enum Command<'w> {
         path: &'w Text,
         names: ChannelWords<'w>,
     },
+    /// `run`: applies the events of the input to the cluster file.
+    Run,
+    /// `show NAMESPACE`: lists the namespace's objects in the cluster file.
+    Show {
+        namespace: &'w Text,
+    },
+    /// `decide [--budget=N] NAMESPACE`: decides what is asked in the namespace, with no more lemmas than the budget.
+    Decide {
+        budget: u32,
+        namespace: &'w Text,
+    },
+}
+
+/// A budget, and the words of the form behind it.
+#[derive(Clone, Copy, Debug)]
+struct Budgeted<'w> {
+    budget: u32,
+    form: &'w [Text],
 }
 
 /// Whether a word is no option, and not empty.
@@ -190,18 +208,34 @@ fn budget_text(word: &Text) -> Option<&[u8]>
     word.as_slice().strip_prefix(b"--budget=")
 }
 
+/// The budget, which may stand first, and the words behind it.
+fn budget_first(words: &[Text]) -> Option<Budgeted<'_>>
+    ensures { option_map (λ found. (found.budget, found.form.now)) result ≡ spec.budget_first words.now }
+{
+    match words {
+        [] => Some(Budgeted {
+            budget: DEFAULT_BUDGET,
+            form: words,
+        }),
+        [word, rest @ ..] => match budget_text(word) {
+            None => Some(Budgeted {
+                budget: DEFAULT_BUDGET,
+                form: words,
+            }),
+            Some(digits) => match budget_of(digits) {
+                None => None,
+                Some(budget) => Some(Budgeted { budget, form: rest }),
+            },
+        },
+    }
+}
+
 fn resolve_of(words: &[Text]) -> Option<Command<'_>>
     ensures { option_map spec.command_view result ≡ spec.resolve_of words.now }
 {
-    match words {
-        [] => None,
-        [word, rest @ ..] => match budget_text(word) {
-            None => resolve_within(DEFAULT_BUDGET, words),
-            Some(digits) => match budget_of(digits) {
-                None => None,
-                Some(budget) => resolve_within(budget, rest),
-            },
-        },
+    match budget_first(words) {
+        None => None,
+        Some(Budgeted { budget, form }) => resolve_within(budget, form),
     }
 }
 
@@ -224,6 +258,54 @@ fn verify_of(words: &[Text]) -> Option<Command<'_>>
     }
 }
 
+fn run_of(words: &[Text]) -> Option<Command<'_>>
+    ensures { option_map spec.command_view result ≡ spec.run_of words.now }
+{
+    match words {
+        [] => Some(Command::Run),
+        _ => None,
+    }
+}
+
+fn show_of(words: &[Text]) -> Option<Command<'_>>
+    ensures { option_map spec.command_view result ≡ spec.show_of words.now }
+{
+    match words {
+        [namespace] => {
+            if is_plain(namespace) {
+                Some(Command::Show { namespace })
+            } else {
+                None
+            }
+        }
+        _ => None,
+    }
+}
+
+fn decide_within(budget: u32, words: &[Text]) -> Option<Command<'_>>
+    ensures { option_map spec.command_view result ≡ spec.decide_within budget words.now }
+{
+    match words {
+        [namespace] => {
+            if is_plain(namespace) {
+                Some(Command::Decide { budget, namespace })
+            } else {
+                None
+            }
+        }
+        _ => None,
+    }
+}
+
+fn decide_of(words: &[Text]) -> Option<Command<'_>>
+    ensures { option_map spec.command_view result ≡ spec.decide_of words.now }
+{
+    match budget_first(words) {
+        None => None,
+        Some(Budgeted { budget, form }) => decide_within(budget, form),
+    }
+}
+
 /// The one word `--help`.
 fn help_of(words: &[Text]) -> Option<Command<'_>>
     ensures { option_map spec.command_view result ≡ spec.help_of words.now }
@@ -234,26 +316,46 @@ fn help_of(words: &[Text]) -> Option<Command<'_>>
     }
 }
 
+/// A command over a catalog, by its name and the words behind it.
+fn catalog_command_of<'w>(name: &Text, words: &'w [Text]) -> Option<Command<'w>>
+    ensures { option_map spec.command_view result ≡ spec.catalog_command_of name.now words.now }
+{
+    if name.as_slice() == b"check".as_slice() {
+        check_of(words)
+    } else if name.as_slice() == b"graph".as_slice() {
+        graph_of(words)
+    } else if name.as_slice() == b"resolve".as_slice() {
+        resolve_of(words)
+    } else if name.as_slice() == b"verify".as_slice() {
+        verify_of(words)
+    } else {
+        None
+    }
+}
+
+/// Any command, by its name and the words behind it.
+fn named_command_of<'w>(name: &Text, words: &'w [Text]) -> Option<Command<'w>>
+    ensures { option_map spec.command_view result ≡ spec.named_command_of name.now words.now }
+{
+    if name.as_slice() == b"run".as_slice() {
+        run_of(words)
+    } else if name.as_slice() == b"show".as_slice() {
+        show_of(words)
+    } else if name.as_slice() == b"decide".as_slice() {
+        decide_of(words)
+    } else if name.as_slice() == b"--help".as_slice() {
+        help_of(words)
+    } else {
+        catalog_command_of(name, words)
+    }
+}
+
 /// The command that the words stand for.
 pub fn command_of(words: &[Text]) -> Option<Command<'_>>
     ensures { option_map spec.command_view result ≡ spec.command_of words.now }
 {
     match words {
         [] => None,
-        [name, rest @ ..] => {
-            if name.as_slice() == b"check".as_slice() {
-                check_of(rest)
-            } else if name.as_slice() == b"graph".as_slice() {
-                graph_of(rest)
-            } else if name.as_slice() == b"resolve".as_slice() {
-                resolve_of(rest)
-            } else if name.as_slice() == b"verify".as_slice() {
-                verify_of(rest)
-            } else if name.as_slice() == b"--help".as_slice() {
-                help_of(rest)
-            } else {
-                None
-            }
-        }
+        [name, rest @ ..] => named_command_of(name, rest),
     }
 }

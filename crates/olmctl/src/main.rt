@@ -1,9 +1,10 @@
-//! The program `olmctl`: the top call over the words of the command line, the current directory and the standard
-//! streams.
+//! The program `olmctl`: the top call over the words of the command line, the current directory, the cluster file in it
+//! and the standard streams.
 #![tactic(auto)]
 
-use olm_base::Text;
+use olm_base::{Memory, Text};
 use olm_cli::{Cause, exit_of, olmctl, status, tell_cause};
+use olm_disk::FileDisk;
 use olm_folder::StdFolder;
 use olm_io::{StdSink, StdSource};
 use std::process::ExitCode;
@@ -18,8 +19,14 @@ fn read_words(rt: &HostRuntime) -> io::Result<Vec<Text>> {
     Ok(words)
 }
 
-/// Why words could not be read: those that are no text are no command line.
-fn unread(fault: &io::Error) -> Cause {
+/// The disk with the cluster file, which is opened only by a command that needs it.
+fn cluster_disk(rt: &HostRuntime) -> Result<FileDisk<&HostRuntime>, Memory> {
+    let path = Text::from_str(rt.alloc(), "cluster.olm")?;
+    Ok(FileDisk::new(rt, path))
+}
+
+/// Why no command was run: words that are no text are no command line.
+fn not_run(fault: &io::Error) -> Cause {
     if fault.kind() == io::ErrorKind::OutOfMemory {
         Cause::NoMemory
     } else {
@@ -32,17 +39,22 @@ fn main(rt: HostRuntime) -> ExitCode {
     let mut input = StdSource::new(rt.stdin());
     let mut out = StdSink::new(rt.stdout());
     let mut err = StdSink::new(rt.stderr());
-    let exit = match read_words(&rt) {
-        Ok(words) => olmctl(
+    let exit = match (read_words(&rt), cluster_disk(&rt)) {
+        (Ok(words), Ok(mut disk)) => olmctl(
             rt.alloc(),
             words.as_slice(),
             &mut folder,
             &mut input,
+            &mut disk,
             &mut out,
             &mut err,
         ),
-        Err(fault) => {
-            let told = tell_cause(rt.alloc(), unread(&fault), &mut err);
+        (Err(fault), _) => {
+            let told = tell_cause(rt.alloc(), not_run(&fault), &mut err);
+            exit_of(&told)
+        }
+        (Ok(_), Err(Memory)) => {
+            let told = tell_cause(rt.alloc(), Cause::NoMemory, &mut err);
             exit_of(&told)
         }
     };

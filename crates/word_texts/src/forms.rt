@@ -12,8 +12,12 @@ const FORMS: &str = "The words of the commands:
   graph PATH PACKAGE CHANNEL
   resolve [--budget=N] PATH PACKAGE CHANNEL
   verify PATH PACKAGE CHANNEL
+  run
+  show NAMESPACE
+  decide [--budget=N] NAMESPACE
 
 PATH is a folder, or @ for the input; verify reads its certificate there, and @ is a folder's name to it.
+run reads its events from the input. It, show and decide open the cluster file, cluster.olm in this directory.
 N is how many lemmas the search may keep, from 1 to 16777216, and 10000 where it isn't given.";
 
 /// A word that must be there.
@@ -105,6 +109,37 @@ fn verify_form<'a>(alloc: Global) -> Result<Command<'a>, AllocError> {
     with_channel(alloc, command)
 }
 
+fn namespace_word<'a>(alloc: Global) -> Arg<'a> {
+    word(alloc, "NAMESPACE", "The namespace")
+}
+
+fn run_form<'a>(alloc: Global) -> Result<Command<'a>, AllocError> {
+    named(
+        alloc,
+        "run",
+        "Apply events, which are read from the input, to the cluster file",
+    )
+}
+
+fn show_form<'a>(alloc: Global) -> Result<Command<'a>, AllocError> {
+    named(
+        alloc,
+        "show",
+        "List the objects of a namespace in the cluster file",
+    )?
+    .arg(namespace_word(alloc))
+}
+
+fn decide_form<'a>(alloc: Global) -> Result<Command<'a>, AllocError> {
+    named(
+        alloc,
+        "decide",
+        "Decide what the subscriptions of a namespace install",
+    )?
+    .arg(budget_option(alloc))?
+    .arg(namespace_word(alloc))
+}
+
 /// The whole program.
 pub fn program<'a>(alloc: Global) -> Result<Command<'a>, AllocError> {
     Command::new(alloc, "olmctl")
@@ -117,5 +152,8 @@ pub fn program<'a>(alloc: Global) -> Result<Command<'a>, AllocError> {
         .subcommand(check_form(alloc)?)?
         .subcommand(graph_form(alloc)?)?
         .subcommand(resolve_form(alloc)?)?
-        .subcommand(verify_form(alloc)?)
+        .subcommand(verify_form(alloc)?)?
+        .subcommand(run_form(alloc)?)?
+        .subcommand(show_form(alloc)?)?
+        .subcommand(decide_form(alloc)?)
 }

@@ -1,0 +1,5 @@
+pub mod Keeping
+pub mod Going
+pub mod Moving
+pub mod Planning
+pub mod Putting

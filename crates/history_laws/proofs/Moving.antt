@@ -1,5 +1,5 @@
 -- Each allowed write, as far as plans and steps go.
-use Rattle.std.proofs.Common.{◌≡◌, ◌≤◌, ◌⊎◌, Bool, true, false, cond, not, eqb, List, [], ℕ, Option, Some, None, refl, sym, ap, ◌∙◌, inl, inr, subst}
+use Rattle.std.proofs.Common.{◌≡◌, ◌≤◌, ◌⊎◌, Bool, true, false, cond, not, eqb, List, [], ℕ, Option, Some, None, refl, sym, ap, ◌∙◌, inl, inr, subst, arith, zero, ◌-◌}
 use Rattle.std.specs.List.{slice_get}
 use Rattle.cluster_objects.specs.Kinds.{as_plan, is_plan_key, status_of}
 use Rattle.cluster_objects.specs.Stamps.{stamps_of, times}
@@ -13,16 +13,17 @@ use Rattle.cluster_objects.specs.declared.plans.Step.{Step}
 use Rattle.cluster_objects.specs.declared.plans.StepState.TheVariants.{Created, Overtaken}
 use Rattle.cluster_objects.specs.declared.plans.PlanStatus.{PlanStatus}
 use Rattle.cluster_objects.specs.declared.statuses.Made.{Made}
-use Rattle.cluster_history.specs.History.{History, After, IsInOrder, base_of, position, slot, slot_in, first_writes}
+use Rattle.cluster_history.specs.History.{History, After, IsInOrder, base_of, position, slot, slot_in, earlier, first_writes}
 use Rattle.cluster_history.specs.Views.{View, view, is_visible}
 use Rattle.cluster_history.specs.declared.slots.Slot.{Slot}
 use Rattle.lawful_history.specs.Installing.{install_key, key_of, plan_write, step_write, with_step, owner_of, Move, Rest, Begin, Finish, Fail, Aim, Land, move_write, next_move}
-use Rattle.lawful_history.specs.Lawful.{last_plan, IsAllowed, Aside, Removes, Approves, Creates, Installs}
+use Rattle.lawful_history.specs.Lawful.{last_plan, IsNew, IsAllowed, Aside, Removes, Approves, Creates, Installs}
 use Rattle.lawful_history.specs.Sound.{IsLawful}
 use Rattle.lawful_history.proofs.Invariant.{IsSoundHistory, GoesOn}
 use Rattle.lawful_history.proofs.Allowing.{as_plan-status, bare-none, step_visible}
 use Rattle.lawful_history.proofs.Law.{Past, seen_entry, lawful-past, base_in_order}
 use Rattle.lawful_history.proofs.Moves.{MoveStep, next_move_of, slot_in-view}
+use Rattle.lawful_history.proofs.Steps.{Some-same}
 use Rattle.lawful_history.proofs.Older.{first_older, now}
 use Rattle.history_laws.specs.Edges.{PlanEdge, GetsApproved}
 use Rattle.history_laws.proofs.Going.{begins, completes, gives_up, aims, lands, loses}
@@ -36,6 +37,11 @@ pub record Apart (w : Write) : Type 0 where
 pub record First (h : History) (w : Write) : Type 0 where
   pub bare : stamps_of w.object ≡ []
   pub none : last_plan h w.key ≡ None
+  pub by : w.by ≡ writer.Resolver
+  pub plan : PlanStatus
+  pub put : as_plan w.object ≡ Some plan
+  pub new : IsNew plan
+  pub as_seen : (a : ℕ) → slot (first_writes a h) w.key ≡ slot h w.key
 
 -- the write goes on with the plan that is there
 pub record Goes (h : History) (w : Write) : Type 0 where
@@ -45,6 +51,7 @@ pub record Goes (h : History) (w : Write) : Type 0 where
   pub last : last_plan h w.key ≡ Some plan
   pub put : as_plan w.object ≡ Some new
   pub edge : PlanEdge plan new
+  pub as_seen : (object : Object) → w.object ≡ Some object → slot (first_writes object.seen h) w.key ≡ slot h w.key
 
 -- the write puts a step's object
 pub record Puts (h : History) (w : Write) : Type 0 where
@@ -56,6 +63,7 @@ pub record Puts (h : History) (w : Write) : Type 0 where
   pub length : ℕ
   pub object : w.object ≡ Some (record { body = step.body; status = status_of step.made; owner = owner_of (slot h w.key).object; stamp = Some stamp; seen = length })
   pub seen : length ≤ position h
+  pub as_seen : slot (first_writes length h) w.key ≡ slot h w.key
   pub last : last_plan h (key_of stamp) ≡ Some plan
   pub number : stamp.plan ≡ plan.number
   pub at : slice_get plan.steps stamp.step ≡ Some step
@@ -79,7 +87,7 @@ same_put seen stamp s t there there_now e b m =
     ap (λ x. Some (put seen stamp s.body s.made x)) e ∙ ap (λ x. Some (put seen stamp x s.made there_now)) (sym b) ∙ ap (λ x. Some (put seen stamp t.body x there_now)) (sym m)
 
 -- an installer's write
-module _ (h : History) (sound : IsSoundHistory h) (old : History) (sound_old : IsSoundHistory old) (goes : GoesOn old h) (v : View) (low : v.length ≤ position h)
+module _ (h : History) (sound : IsSoundHistory h) (old : History) (sound_old : IsSoundHistory old) (goes : GoesOn old h) (v : View) (low : v.length ≤ position h) (is_old : old ≡ first_writes v.length h)
     (sees : (k : Key) → is_visible v.namespace k ≡ true → slot_in v.slots k ≡ slot old k) (key : Key) (object : Object) (plan : PlanStatus)
     (kind : is_plan_key key ≡ true) (namespace : key.namespace ≡ v.namespace) (is_there : (slot old key).object ≡ Some object) (status_is : object.status ≡ status.Plan plan) where
   was : last_plan old key ≡ Some plan
@@ -89,12 +97,23 @@ module _ (h : History) (sound : IsSoundHistory h) (old : History) (sound_old : I
   still : (slot old key).version ≡ (slot h key).version → last_plan h key ≡ Some plan
   still same = sound.there key plan kind (ap (λ (x : Slot). as_plan x.object) (sym (goes.same key same)) ∙ ap as_plan is_there ∙ as_plan-status object plan status_is)
 
+  as_old : (k : Key) → (slot old k).version ≡ (slot h k).version → slot (first_writes v.length h) k ≡ slot h k
+  as_old k same = subst (λ g. slot g k ≡ slot h k) is_old (goes.same k same)
+
   Fits : Write → Type 0
   Fits w = w.expect ≡ (slot h w.key).version → Class h w
 
   plan_put : (new : PlanStatus) → PlanEdge plan new → Fits (plan_write v key (slot old key).version object new)
   unfolding Fits
-  plan_put new edge same = GoesWith (record { bare = refl; plan = plan; new = new; last = still same; put = refl; edge = edge })
+  plan_put new edge same = GoesWith (record {
+    bare = refl;
+    plan = plan;
+    new = new;
+    last = still same;
+    put = refl;
+    edge = edge;
+    as_seen = λ put is. subst (λ n. slot (first_writes n h) key ≡ slot h key) (ap (λ (x : Object). x.seen) (Some-same _ _ _ refl is)) (as_old key same);
+  })
 
   step_put : (i : ℕ) (s : Step) → slice_get plan.steps i ≡ Some s → Fits (step_write v s.key (slot_in v.slots s.key) plan.number i s)
   unfolding Fits
@@ -114,6 +133,7 @@ module _ (h : History) (sound : IsSoundHistory h) (old : History) (sound_old : I
         length = v.length;
         object = same_put v.length (record { namespace = v.namespace; plan = plan.number; step = i }) s moved.0 (slot_in v.slots s.key).object (slot h s.key).object (ap (λ (x : Slot). x.object) equal) moved.2.body moved.2.made;
         seen = low;
+        as_seen = as_old s.key (sym (ap (λ (x : Slot). x.version) saw) ∙ same);
         last = ap (λ k. last_plan h k) named ∙ mid.1;
         number = sym mid.2.number;
         at = moved.1;
@@ -142,6 +162,9 @@ module _ (h : History) (sound : IsSoundHistory h) (old : History) (sound_old : I
   by_move (Aim i s) e is w p = to _ w (plan_put _ (aims plan i s (slot_in v.slots s.key) is)) p
   by_move (Land i s n) e is w p = to _ w (land i s n is (eqb (times (seen_stamp i) (slot_in v.slots s.key).stamps) 0) (eqb (slot_in v.slots s.key).version n)) p
 
+all_writes : (h : History) → first_writes (position h) h ≡ h
+all_writes h = ap (λ n. earlier n h) (let e : position h - position h ≡ zero = omega arith in e)
+
 -- every allowed write
 class : (is_valid : List ℕ → Bool) (h : History) (w : Write) → IsInOrder (base_of h).slots → Past h → IsAllowed is_valid h w → w.expect ≡ (slot h w.key).version → Class h w
 class is_valid h w sorted past (Aside bare kind valid) expects = IsApart (record { bare = bare; kind = inl kind })
@@ -154,15 +177,25 @@ class is_valid h w sorted past (Approves by object plan kind there st is) expect
       last = (past h now).0.there w.key plan kind (ap as_plan there ∙ as_plan-status object plan st);
       put = ap as_plan is;
       edge = GetsApproved refl;
+      as_seen = λ put is_put. subst (λ n. slot (first_writes n h) w.key ≡ slot h w.key) (ap (λ (x : Object). x.seen) (Some-same _ _ _ is is_put)) (ap (λ g. slot g w.key) (all_writes h));
     })
 class is_valid h w sorted past (Creates by object plan kind fresh is st unstamped made new) expects =
-    IsFirst (record { bare = ap stamps_of is ∙ bare-none object unstamped; none = (past h now).0.written w.key (sym expects ∙ fresh) })
+    let unwritten : (slot h w.key).version ≡ 0 = sym expects ∙ fresh in
+    IsFirst (record {
+      bare = ap stamps_of is ∙ bare-none object unstamped;
+      none = (past h now).0.written w.key unwritten;
+      by = by;
+      plan = plan;
+      put = ap as_plan is ∙ as_plan-status object plan st;
+      new = new;
+      as_seen = λ a. let goes = (past (first_writes a h) (first_older a h)).1 in goes.same w.key (omega (arith, goes.versions w.key, unwritten));
+    })
 class is_valid h w sorted past (Installs namespace a i low le is) expects =
     let g = first_writes a h in
     let old = past g (first_older a h) in
     let v = view h namespace a in
     let entry = seen_entry h w sorted namespace a i is in
-    by_move h (past h now).0 g old.0 old.1 v le (λ k s. slot_in-view h namespace a k s) entry.key entry.object entry.plan entry.kind entry.namespace
+    by_move h (past h now).0 g old.0 old.1 v le refl (λ k s. slot_in-view h namespace a k s) entry.key entry.object entry.plan entry.kind entry.namespace
     entry.there entry.status (next_move entry.plan) refl (next_move_of entry.plan) w entry.write expects
 
 pub class_of : (is_valid : List ℕ → Bool) (h : History) (w : Write) → IsLawful is_valid (After w h) → Class h w

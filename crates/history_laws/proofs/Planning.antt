@@ -4,16 +4,18 @@ use Rattle.std.specs.Option.{option_or}
 use Rattle.std.specs.List.{slice_get}
 use Rattle.cluster_objects.specs.Kinds.{as_plan, is_plan_key}
 use Rattle.cluster_objects.specs.declared.keys.Key.{Key}
+use Rattle.cluster_objects.specs.declared.objects.Object.{Object}
 use Rattle.cluster_objects.specs.declared.objects.Write.{Write}
+use Rattle.cluster_objects.specs.declared.objects.Writer.TheVariants as writer
 use Rattle.cluster_objects.specs.declared.plans.Step.{Step}
 use Rattle.cluster_objects.specs.declared.plans.StepState.{StepState}
 use Rattle.cluster_objects.specs.declared.plans.StepState.TheVariants.{Unknown, Aimed, Created, Present, Overtaken}
 use Rattle.cluster_objects.specs.declared.plans.PlanPhase.{PlanPhase}
 use Rattle.cluster_objects.specs.declared.plans.PlanPhase.TheVariants as phase
 use Rattle.cluster_objects.specs.declared.plans.PlanStatus.{PlanStatus}
-use Rattle.cluster_history.specs.History.{History, After, first_writes}
+use Rattle.cluster_history.specs.History.{History, After, slot, first_writes}
 use Rattle.lawful_history.specs.Installing.{with_step}
-use Rattle.lawful_history.specs.Lawful.{last_plan, StateLater}
+use Rattle.lawful_history.specs.Lawful.{last_plan, IsNew, StateLater}
 use Rattle.lawful_history.specs.Sound.{IsLawful}
 use Rattle.lawful_history.proofs.Law.{lawful-past}
 use Rattle.lawful_history.proofs.Moves.{with_step_cases, with_step-later}
@@ -155,3 +157,35 @@ pub end_stays : (is_valid : List ℕ → Bool) (h : History) (a : ℕ) (key : Ke
 unfolding IsEnd EndStays
 end_stays is_valid h a key plan new lawful kind was is ended =
     always is_valid EndStays (λ p is_end. (refl, refl)) end_edge key kind plan (first_older a h) lawful was new is ended
+
+-- a write of a plan's key finds there what its writer saw
+pub plan_as_seen : (is_valid : List ℕ → Bool) (h : History) (w : Write) (object : Object) → IsLawful is_valid (After w h) → w.object ≡ Some object → is_plan_key w.key ≡ true
+    → slot (first_writes object.seen h) w.key ≡ slot h w.key
+plan_as_seen is_valid h w object lawful is kind = by_class (class_of is_valid h w lawful)
+  where
+    by_class : Class h w → slot (first_writes object.seen h) w.key ≡ slot h w.key
+    by_class (IsApart apart) = elim apart.kind [
+      | inl is_none ↦ absurd (cc)
+      | inr none ↦ absurd (let e : None ≡ Some object = sym none ∙ is in cc)
+    ]
+    by_class (IsFirst first) = first.as_seen object.seen
+    by_class (GoesWith goes) = goes.as_seen object is
+    by_class (PutsOne puts) = absurd (let e = puts.no_plan in cc)
+
+-- the first plan of a key is a resolver's new one
+pub first_plan : (is_valid : List ℕ → Bool) (h : History) (w : Write) (key : Key) (new : PlanStatus) → IsLawful is_valid (After w h) → is_plan_key key ≡ true → last_plan h key ≡ None → last_plan (After w h) key ≡ Some new
+    → (w.key ≡ key) × (w.by ≡ writer.Resolver) × IsNew new
+first_plan is_valid h w key new lawful kind none is = elim (same_or_other w h key) [
+  | inr other ↦ absurd (let e : None ≡ Some new = sym none ∙ sym (last_plan-other w h key other.0) ∙ is in cc)
+  | inl same ↦ by_class same.0 (class_of is_valid h w lawful)
+]
+  where
+    by_class : w.key ≡ key → Class h w → (w.key ≡ key) × (w.by ≡ writer.Resolver) × IsNew new
+    by_class e (IsApart apart) = elim apart.kind [
+      | inl is_none ↦ absurd (let t : is_plan_key key ≡ false = subst (λ k. is_plan_key k ≡ false) e is_none in cc)
+      | inr gone ↦ absurd (let n : None ≡ Some new = sym none ∙ sym (last_plan-written w h key e ∙ ap (λ o. option_or o (last_plan h key)) (ap as_plan gone)) ∙ is in cc)
+    ]
+    by_class e (IsFirst first) =
+        (e, first.by, subst IsNew (Some-same _ _ _ (last_plan-written w h key e ∙ ap (λ o. option_or o (last_plan h key)) first.put) is) first.new)
+    by_class e (GoesWith goes) = absurd (let n : None ≡ Some goes.plan = sym none ∙ ap (λ k. last_plan h k) (sym e) ∙ goes.last in cc)
+    by_class e (PutsOne puts) = absurd (let t : is_plan_key key ≡ false = subst (λ k. is_plan_key k ≡ false) e puts.no_plan in cc)

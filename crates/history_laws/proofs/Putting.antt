@@ -18,7 +18,7 @@ use Rattle.cluster_objects.specs.declared.statuses.CsvPhase.TheVariants as csv
 use Rattle.cluster_objects.specs.declared.statuses.SubscriptionStatus.{SubscriptionStatus}
 use Rattle.cluster_objects.specs.declared.statuses.SubState.TheVariants as sub
 use Rattle.std.specs.List.{slice_get}
-use Rattle.cluster_history.specs.History.{History, After, position, slot}
+use Rattle.cluster_history.specs.History.{History, After, position, slot, first_writes}
 use Rattle.lawful_history.specs.Installing.{key_of, is_kept, owner_of}
 use Rattle.lawful_history.specs.Lawful.{last_plan, MakesItsKind}
 use Rattle.lawful_history.specs.Sound.{IsLawful}
@@ -86,6 +86,10 @@ module _ (is_valid : List ℕ → Bool) (h : History) (w : Write) (object : Obje
   status_is : object.status ≡ status_of puts.step.made
   unfolding put
   status_is = sym (ap (λ (x : Object). x.status) is_put)
+
+  pub step_as_seen : slot (first_writes object.seen h) w.key ≡ slot h w.key
+  unfolding put
+  step_as_seen = subst (λ (x : Object). slot (first_writes x.seen h) w.key ≡ slot h w.key) is_put puts.as_seen
 
   pub puts_step : PutsStep h w object stamp
   unfolding put

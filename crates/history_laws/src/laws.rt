@@ -6,6 +6,7 @@ ghost use Rattle.cluster_objects.specs.declared.keys.Key.{Key};
 ghost use Rattle.cluster_objects.specs.declared.keys.Stamp.{Stamp};
 ghost use Rattle.cluster_objects.specs.declared.objects.Object.{Object};
 ghost use Rattle.cluster_objects.specs.declared.objects.Write.{Write};
+ghost use Rattle.cluster_objects.specs.declared.objects.Writer.TheVariants as writer;
 ghost use Rattle.cluster_objects.specs.declared.plans.PlanPhase.TheVariants as phase;
 ghost use Rattle.cluster_objects.specs.declared.plans.PlanStatus.{PlanStatus};
 ghost use Rattle.cluster_objects.specs.declared.plans.Step.{Step};
@@ -15,7 +16,7 @@ ghost use Rattle.cluster_objects.specs.declared.statuses.SubscriptionStatus.{Sub
 ghost use Rattle.cluster_objects.specs.declared.statuses.SubState.TheVariants as sub;
 ghost use Rattle.cluster_history.specs.History.{History, After, IsBase, base_of, never_written, position, slot, slot_in, first_writes};
 ghost use Rattle.cluster_history.specs.Views.{view, is_visible};
-ghost use Rattle.lawful_history.specs.Lawful.{last_plan};
+ghost use Rattle.lawful_history.specs.Lawful.{last_plan, IsNew};
 ghost use Rattle.lawful_history.specs.Sound.{IsSoundBase, IsLawful};
 ghost use Rattle.history_laws.specs.Edges.{PlanEdge, PhaseEdge, StepEdge};
 ghost use Rattle.history_laws.specs.Steps.{PutsStep};
@@ -35,6 +36,13 @@ pub fn slots_stay()
     ensures grows { (h : History) (a : ℕ) (key : Key) → IsBase (base_of h) → (slot (first_writes a h) key).version ≤ (slot h key).version }
     ensures bound { (h : History) (key : Key) → IsBase (base_of h) → (slot h key).version ≤ position h }
     ensures nothing { (h : History) (key : Key) → IsBase (base_of h) → (slot h key).version ≡ 0 → slot h key ≡ never_written }
+{}
+
+/// The first plan of a key is written by a resolver, not approved, with each step Unknown. It is in Planning, or in
+/// RequiresApproval if it is manual, or Failed without a step.
+pub fn plans_begin_new()
+    ensures { (is_valid : List ℕ → Bool) (h : History) (w : Write) (key : Key) (new : PlanStatus) → IsLawful is_valid (After w h) → is_plan_key key ≡ true
+        → last_plan h key ≡ None → last_plan (After w h) key ≡ Some new → (w.key ≡ key) × (w.by ≡ writer.Resolver) × IsNew new }
 {}
 
 /// One write leaves the newest plan of a key as it was, or approves it, or moves its phase or one of its steps along
@@ -89,4 +97,13 @@ pub fn steps_spare_operators()
         → w.object ≡ Some object → object.stamp ≡ Some stamp → csv_at w.key w.object ≡ Some x → x.phase ≡ csv.Nothing }
     ensures state { (is_valid : List ℕ → Bool) (h : History) (w : Write) (object : Object) (stamp : Stamp) (x : SubscriptionStatus) → IsLawful is_valid (After w h)
         → w.object ≡ Some object → object.stamp ≡ Some stamp → subscription_at w.key w.object ≡ Some x → x.state ≡ sub.Nothing }
+{}
+
+/// A write of an InstallPlan's key, and one with a stamp, finds at its key what stood there at its `seen`. So what it
+/// goes on with is as the writer saw it.
+pub fn writes_find_what_was_seen()
+    ensures plan { (is_valid : List ℕ → Bool) (h : History) (w : Write) (object : Object) → IsLawful is_valid (After w h)
+        → w.object ≡ Some object → is_plan_key w.key ≡ true → slot (first_writes object.seen h) w.key ≡ slot h w.key }
+    ensures step { (is_valid : List ℕ → Bool) (h : History) (w : Write) (object : Object) (stamp : Stamp) → IsLawful is_valid (After w h)
+        → w.object ≡ Some object → object.stamp ≡ Some stamp → slot (first_writes object.seen h) w.key ≡ slot h w.key }
 {}

@@ -1,3 +1,4 @@
+pub mod Beginnings
 pub mod Keeping
 pub mod Going
 pub mod Moving

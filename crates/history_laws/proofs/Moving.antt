@@ -25,7 +25,7 @@ use Rattle.lawful_history.proofs.Law.{Past, seen_entry, lawful-past, base_in_ord
 use Rattle.lawful_history.proofs.Moves.{MoveStep, next_move_of, slot_in-view}
 use Rattle.lawful_history.proofs.Steps.{Some-same}
 use Rattle.lawful_history.proofs.Older.{first_older, now}
-use Rattle.history_laws.specs.Edges.{PlanEdge, GetsApproved}
+use Rattle.history_laws.specs.Edges.{PlanEdge, BecomesApproved}
 use Rattle.history_laws.proofs.Going.{begins, completes, gives_up, aims, lands, loses}
 
 -- the write puts no plan
@@ -176,7 +176,7 @@ class is_valid h w sorted past (Approves by object plan kind there st is) expect
       new = record plan { approved = true };
       last = (past h now).0.there w.key plan kind (ap as_plan there ∙ as_plan-status object plan st);
       put = ap as_plan is;
-      edge = GetsApproved refl;
+      edge = BecomesApproved refl;
       as_seen = λ put is_put. subst (λ n. slot (first_writes n h) w.key ≡ slot h w.key) (ap (λ (x : Object). x.seen) (Some-same _ _ _ is is_put)) (ap (λ g. slot g w.key) (all_writes h));
     })
 class is_valid h w sorted past (Creates by object plan kind fresh is st unstamped made new) expects =

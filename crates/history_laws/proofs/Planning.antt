@@ -22,7 +22,7 @@ use Rattle.lawful_history.proofs.Moves.{with_step_cases, with_step-later}
 use Rattle.lawful_history.proofs.Older.{IsOlder, now, back, first_older}
 use Rattle.lawful_history.proofs.Slots.{same_or_other, last_plan-written, last_plan-other}
 use Rattle.lawful_history.proofs.Steps.{Some-same}
-use Rattle.history_laws.specs.Edges.{StateEdge, PhaseEdge, Begins, BeginsApproved, Completes, Fails, PlanEdge, Stays, GetsApproved, MovesPhase, MovesStep, StepEdge}
+use Rattle.history_laws.specs.Edges.{StateEdge, PhaseEdge, Begins, BeginsApproved, Completes, Fails, PlanEdge, Stays, BecomesApproved, MovesPhase, MovesStep, StepEdge}
 use Rattle.history_laws.proofs.Moving.{Class, IsApart, IsFirst, GoesWith, PutsOne, class_of}
 
 -- one write leaves a plan on an edge
@@ -92,20 +92,20 @@ one_step plan j u x there moves i s at =
 
 pub step_edge : (plan new : PlanStatus) (i : ℕ) (s : Step) → PlanEdge plan new → slice_get plan.steps i ≡ Some s → (t : Step) × (slice_get new.steps i ≡ Some t) × StepEdge s t
 step_edge plan new i s (Stays e) at = same_steps plan new i s (ap (λ (p : PlanStatus). p.steps) e) at
-step_edge plan new i s (GetsApproved e) at = same_steps plan new i s (ap (λ (p : PlanStatus). p.steps) e) at
+step_edge plan new i s (BecomesApproved e) at = same_steps plan new i s (ap (λ (p : PlanStatus). p.steps) e) at
 step_edge plan new i s (MovesPhase x p e) at = same_steps plan new i s (ap (λ (p : PlanStatus). p.steps) e) at
 step_edge plan new i s (MovesStep j u x installing there moves e) at =
     subst (λ (p : PlanStatus). (t : Step) × (slice_get p.steps i ≡ Some t) × StepEdge s t) (sym e) (one_step plan j u x there moves i s at)
 
 pub phase_edge : (plan new : PlanStatus) → PlanEdge plan new → (new.phase ≡ plan.phase) ⊎ PhaseEdge plan new.phase
 phase_edge plan new (Stays e) = inl (ap (λ (p : PlanStatus). p.phase) e)
-phase_edge plan new (GetsApproved e) = inl (ap (λ (p : PlanStatus). p.phase) e)
+phase_edge plan new (BecomesApproved e) = inl (ap (λ (p : PlanStatus). p.phase) e)
 phase_edge plan new (MovesPhase x p e) = inr (subst (PhaseEdge plan) (sym (ap (λ (p : PlanStatus). p.phase) e)) p)
 phase_edge plan new (MovesStep j u x installing there moves e) = inl (ap (λ (p : PlanStatus). p.phase) e)
 
 cause_edge : (plan new : PlanStatus) → PlanEdge plan new → new.cause ≡ plan.cause
 cause_edge plan new (Stays e) = ap (λ (p : PlanStatus). p.cause) e
-cause_edge plan new (GetsApproved e) = ap (λ (p : PlanStatus). p.cause) e
+cause_edge plan new (BecomesApproved e) = ap (λ (p : PlanStatus). p.cause) e
 cause_edge plan new (MovesPhase x p e) = ap (λ (p : PlanStatus). p.cause) e
 cause_edge plan new (MovesStep j u x installing there moves e) = ap (λ (p : PlanStatus). p.cause) e
 
@@ -134,7 +134,7 @@ begun plan x (Fails e o n) = inr (inr e)
 end_edge : (old plan new : PlanStatus) → EndStays old plan → PlanEdge plan new → EndStays old new
 unfolding EndStays
 end_edge old plan new so (Stays e) is_end = (ap (λ (p : PlanStatus). p.phase) e ∙ (so is_end).0, ap (λ (p : PlanStatus). p.steps) e ∙ (so is_end).1)
-end_edge old plan new so (GetsApproved e) is_end = (ap (λ (p : PlanStatus). p.phase) e ∙ (so is_end).0, ap (λ (p : PlanStatus). p.steps) e ∙ (so is_end).1)
+end_edge old plan new so (BecomesApproved e) is_end = (ap (λ (p : PlanStatus). p.phase) e ∙ (so is_end).0, ap (λ (p : PlanStatus). p.steps) e ∙ (so is_end).1)
 end_edge old plan new so (MovesPhase x p e) is_end = absurd (not_phase old plan is_end (so is_end).0 (begun plan x p))
 end_edge old plan new so (MovesStep j u x installing there moves e) is_end = absurd (not_phase old plan is_end (so is_end).0 (inr (inr installing)))
 

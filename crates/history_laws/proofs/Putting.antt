@@ -20,11 +20,13 @@ use Rattle.cluster_objects.specs.declared.statuses.SubState.TheVariants as sub
 use Rattle.std.specs.List.{slice_get}
 use Rattle.cluster_history.specs.History.{History, After, position, slot, first_writes}
 use Rattle.lawful_history.specs.Installing.{key_of, is_kept, owner_of}
-use Rattle.lawful_history.specs.Lawful.{last_plan, MakesItsKind}
+use Rattle.lawful_history.specs.Lawful.{last_plan, MakesItsKind, KeepsPhase, KeepsState}
 use Rattle.lawful_history.specs.Sound.{IsLawful}
 use Rattle.lawful_history.proofs.Allowing.{Effect}
 use Rattle.lawful_history.proofs.Landing.{Lands}
 use Rattle.lawful_history.proofs.Law.{newest, sound, fits}
+use Rattle.cluster_history.specs.declared.slots.Slot.{Slot}
+use Rattle.lawful_history.proofs.Slots.{same_or_other}
 use Rattle.lawful_history.proofs.Steps.{Some-same, is_plan_key-key_of}
 use Rattle.history_laws.specs.Steps.{PutsStep}
 use Rattle.history_laws.proofs.Moving.{Puts, Class, IsApart, IsFirst, GoesWith, PutsOne, class_of}
@@ -174,6 +176,19 @@ new_subscription key m makes o object is st x at = by_made m makes (ap (λ (s : 
     by_made (made.Csv y) makes at = absurd (some_none (is_subscription_key key) x at)
     by_made (made.Deployment y) makes at = absurd (some_none (is_subscription_key key) x at)
 
+-- the phase of what was there, and none where nothing was
+abbrev HasPhaseOf : CsvStatus → Option CsvStatus → Type 0
+HasPhaseOf x found = elim found [ None ↦ x.phase ≡ csv.Nothing | Some y ↦ x.phase ≡ y.phase ]
+
+abbrev HasStateOf : SubscriptionStatus → Option SubscriptionStatus → Type 0
+HasStateOf x found = elim found [ None ↦ x.state ≡ sub.Nothing | Some y ↦ x.state ≡ y.state ]
+
+phase_stays : (key : Key) (o : Option Object) → KeepsPhase key o o
+phase_stays key o x there = subst (HasPhaseOf x) (sym there) refl
+
+state_stays : (key : Key) (o : Option Object) → KeepsState key o o
+state_stays key o x there = subst (HasStateOf x) (sym there) refl
+
 module _ (is_valid : List ℕ → Bool) (h : History) (w : Write) (object : Object) (stamp : Stamp) (lawful : IsLawful is_valid (After w h)) (is : w.object ≡ Some object) (stamped : object.stamp ≡ Some stamp) where
   pub spares_csv : csv_at w.key (slot h w.key).object ≡ None
   spares_csv = no_csv w.key (slot h w.key).object (unkept is_valid h w object stamp lawful is stamped)
@@ -188,3 +203,21 @@ module _ (is_valid : List ℕ → Bool) (h : History) (w : Write) (object : Obje
   pub subscription_state : (x : SubscriptionStatus) → subscription_at w.key w.object ≡ Some x → x.state ≡ sub.Nothing
   subscription_state x there =
       new_subscription w.key (puts is_valid h w object stamp lawful is stamped).step.made (makes is_valid h w object stamp lawful is stamped) w.object object is (status_is is_valid h w object stamp lawful is stamped) x there
+
+  phase_here : KeepsPhase w.key (slot h w.key).object w.object
+  phase_here x there = subst (HasPhaseOf x) (sym spares_csv) (csv_phase x there)
+
+  state_here : KeepsState w.key (slot h w.key).object w.object
+  state_here x there = subst (HasStateOf x) (sym spares_subscription) (subscription_state x there)
+
+  pub keeps_phase : (key : Key) → KeepsPhase key (slot h key).object (slot (After w h) key).object
+  keeps_phase key = elim (same_or_other w h key) [
+    | inl e ↦ subst (λ (s : Slot). KeepsPhase key (slot h key).object s.object) (sym e.1) (subst (λ (k : Key). KeepsPhase k (slot h k).object w.object) e.0 phase_here)
+    | inr e ↦ subst (λ (s : Slot). KeepsPhase key (slot h key).object s.object) (sym e.1) (phase_stays key (slot h key).object)
+  ]
+
+  pub keeps_state : (key : Key) → KeepsState key (slot h key).object (slot (After w h) key).object
+  keeps_state key = elim (same_or_other w h key) [
+    | inl e ↦ subst (λ (s : Slot). KeepsState key (slot h key).object s.object) (sym e.1) (subst (λ (k : Key). KeepsState k (slot h k).object w.object) e.0 state_here)
+    | inr e ↦ subst (λ (s : Slot). KeepsState key (slot h key).object s.object) (sym e.1) (state_stays key (slot h key).object)
+  ]

@@ -40,7 +40,7 @@ pub data PhaseEdge (plan : PlanStatus) (new : PlanPhase) : Type 0 where
 -- One write leaves the plan as it was, or approves it, or moves its phase, or moves one step while it is in Installing. It changes nothing else of it.
 pub data PlanEdge (plan new : PlanStatus) : Type 0 where
   Stays : new ≡ plan → PlanEdge plan new
-  GetsApproved : new ≡ record plan { approved = true } → PlanEdge plan new
+  BecomesApproved : new ≡ record plan { approved = true } → PlanEdge plan new
   MovesPhase : (x : PlanPhase) → PhaseEdge plan x → new ≡ with_phase plan x → PlanEdge plan new
   MovesStep : (i : ℕ) (s : Step) (x : StepState) → plan.phase ≡ phase.Installing → slice_get plan.steps i ≡ Some s → StateEdge s.state x → new ≡ with_step plan i s x → PlanEdge plan new
 

@@ -16,7 +16,7 @@ ghost use Rattle.cluster_objects.specs.declared.statuses.SubscriptionStatus.{Sub
 ghost use Rattle.cluster_objects.specs.declared.statuses.SubState.TheVariants as sub;
 ghost use Rattle.cluster_history.specs.History.{History, After, IsBase, base_of, never_written, position, slot, slot_in, first_writes};
 ghost use Rattle.cluster_history.specs.Views.{view, is_visible};
-ghost use Rattle.lawful_history.specs.Lawful.{last_plan, IsNew};
+ghost use Rattle.lawful_history.specs.Lawful.{last_plan, IsNew, KeepsPhase, KeepsState};
 ghost use Rattle.lawful_history.specs.Sound.{IsSoundBase, IsLawful};
 ghost use Rattle.history_laws.specs.Edges.{PlanEdge, PhaseEdge, StepEdge};
 ghost use Rattle.history_laws.specs.Steps.{PutsStep};
@@ -26,11 +26,23 @@ pub fn bases_are_sound()
     ensures { (is_valid : List ℕ → Bool) (h : History) → IsLawful is_valid h → IsSoundBase is_valid (base_of h) }
 {}
 
+/// A beginning of a history has the length that it is asked for, if that is at least the base's and at most the
+/// history's. A beginning of a beginning is one of the history, and shows the same.
+pub fn beginnings_nest()
+    ensures nest { (h : History) (a b : ℕ) → a ≤ b → first_writes a (first_writes b h) ≡ first_writes a h }
+    ensures view { (h : History) (namespace : List ℕ) (a b : ℕ) → a ≤ b → view (first_writes b h) namespace a ≡ view h namespace a }
+    ensures whole { (h : History) (a : ℕ) → position h ≤ a → first_writes a h ≡ h }
+    ensures length { (h : History) (a : ℕ) → (base_of h).length ≤ a → a ≤ position h → position (first_writes a h) ≡ a }
+    ensures base { (h : History) (a : ℕ) → base_of (first_writes a h) ≡ base_of h }
+{}
+
 /// A key's version never falls and is at most the history's length. A key that has one version at an older length
 /// and now has the same slot at both, and so it is with what a view shows. A key of version 0 holds nothing.
 pub fn slots_stay()
     ensures same { (h : History) (a : ℕ) (key : Key) → IsBase (base_of h)
         → (slot (first_writes a h) key).version ≡ (slot h key).version → slot (first_writes a h) key ≡ slot h key }
+    ensures between { (h : History) (a b : ℕ) (key : Key) → IsBase (base_of h) → a ≤ b
+        → (slot (first_writes a h) key).version ≡ (slot (first_writes b h) key).version → slot (first_writes a h) key ≡ slot (first_writes b h) key }
     ensures seen { (h : History) (namespace : List ℕ) (a : ℕ) (key : Key) → IsBase (base_of h) → is_visible namespace key ≡ true
         → (slot_in (view h namespace a).slots key).version ≡ (slot h key).version → slot_in (view h namespace a).slots key ≡ slot h key }
     ensures grows { (h : History) (a : ℕ) (key : Key) → IsBase (base_of h) → (slot (first_writes a h) key).version ≤ (slot h key).version }
@@ -87,7 +99,8 @@ pub fn steps_write_what_they_say()
         → w.object ≡ Some object → object.stamp ≡ Some stamp → PutsStep h w object stamp }
 {}
 
-/// A step's object is written over no CSV and no Subscription, and a new one has phase or state None.
+/// A step's object is written over no CSV and no Subscription, and a new one has phase or state None. So the write of
+/// a step changes no phase and no state, whatever the key.
 pub fn steps_spare_operators()
     ensures csv { (is_valid : List ℕ → Bool) (h : History) (w : Write) (object : Object) (stamp : Stamp) → IsLawful is_valid (After w h)
         → w.object ≡ Some object → object.stamp ≡ Some stamp → csv_at w.key (slot h w.key).object ≡ None }
@@ -97,6 +110,10 @@ pub fn steps_spare_operators()
         → w.object ≡ Some object → object.stamp ≡ Some stamp → csv_at w.key w.object ≡ Some x → x.phase ≡ csv.Nothing }
     ensures state { (is_valid : List ℕ → Bool) (h : History) (w : Write) (object : Object) (stamp : Stamp) (x : SubscriptionStatus) → IsLawful is_valid (After w h)
         → w.object ≡ Some object → object.stamp ≡ Some stamp → subscription_at w.key w.object ≡ Some x → x.state ≡ sub.Nothing }
+    ensures phases { (is_valid : List ℕ → Bool) (h : History) (w : Write) (object : Object) (stamp : Stamp) (key : Key) → IsLawful is_valid (After w h)
+        → w.object ≡ Some object → object.stamp ≡ Some stamp → KeepsPhase key (slot h key).object (slot (After w h) key).object }
+    ensures states { (is_valid : List ℕ → Bool) (h : History) (w : Write) (object : Object) (stamp : Stamp) (key : Key) → IsLawful is_valid (After w h)
+        → w.object ≡ Some object → object.stamp ≡ Some stamp → KeepsState key (slot h key).object (slot (After w h) key).object }
 {}
 
 /// A write of an InstallPlan's key, and one with a stamp, finds at its key what stood there at its `seen`. So what it

@@ -8,7 +8,7 @@
 mod laws;
 
 pub use laws::{
-    bases_are_sound, causes_stay, ends_stay, phases_go_by_edges, plans_begin_new,
+    bases_are_sound, beginnings_nest, causes_stay, ends_stay, phases_go_by_edges, plans_begin_new,
     plans_go_by_edges, slots_stay, steps_go_by_edges, steps_spare_operators,
     steps_write_what_they_say, writes_find_what_was_seen,
 };

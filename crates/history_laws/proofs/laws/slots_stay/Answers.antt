@@ -1,4 +1,5 @@
 use Rattle.history_laws.proofs.Keeping.{bound, nothing, grows, same, seen}
+use Rattle.history_laws.proofs.Beginnings.{between}
 use Rattle.history_laws.proofs.laws.slots_stay.Goals as goal
 
 pub returns-clause-same : goal.returns-clause-same
@@ -15,3 +16,6 @@ returns-clause-bound c h key is_base = bound h key is_base
 
 pub returns-clause-nothing : goal.returns-clause-nothing
 returns-clause-nothing c h key is_base is = nothing h key is_base is
+
+pub returns-clause-between : goal.returns-clause-between
+returns-clause-between c h a b key is_base low is = between h a b key is_base low is

@@ -16,7 +16,7 @@ use Rattle.event_runs.specs.Runs as run
 use Rattle.event_runs.specs.declared.halts.Halt.{Halt}
 use Rattle.event_runs.specs.declared.halts.Halt.TheVariants as halt
 use Rattle.lawful_events.specs.Asks.{IsUsersWrite}
-use Rattle.lawful_events.specs.Runs.{AreUsersWrites, GoesOn, Accepts}
+use Rattle.lawful_events.specs.Runs.{AreUsersWrites, GoesOnByUsers, Accepts}
 use Rattle.lawful_events.proofs.Allowed.{stays_lawful}
 
 -- What a folder that tells asks for, some files ask for.
@@ -72,14 +72,14 @@ module _ (fits : History → Write → Bool) (limit : ℕ) (files : run.Files) w
 
   -- ---- all events
 
-  nothing_more : (h : History) → GoesOn h h
+  nothing_more : (h : History) → GoesOnByUsers h h
   nothing_more h = record { writes = []; users = tt; extends = refl }
 
-  goes_first : (h mid new : History) → GoesBy h mid → GoesOn mid new → GoesOn h new
+  goes_first : (h mid new : History) → GoesBy h mid → GoesOnByUsers mid new → GoesOnByUsers h new
   goes_first h _ new Stays rest = rest
   goes_first h _ new (Goes w users) rest = record { writes = w ∷ rest.writes; users = (users, rest.users); extends = rest.extends }
 
-  goes_on : (h mid new : History) → GoesOn h mid → GoesOn mid new → GoesOn h new
+  goes_on : (h mid new : History) → GoesOnByUsers h mid → GoesOnByUsers mid new → GoesOnByUsers h new
   goes_on h mid new first rest = record {
     writes = first.writes ++ rest.writes;
     users = both h first.writes (subst (λ (x : History). AreUsersWrites x rest.writes) first.extends rest.users) first.users;
@@ -94,7 +94,7 @@ module _ (fits : History → Write → Bool) (limit : ℕ) (files : run.Files) w
       after_both h [] = refl
       after_both h (w ∷ ws) = after_both (After w h) ws
 
-  all_go : (h new : History) (es : List Event) (lines : List ℕ) → AllByRecursion IsInRange es → run.AllPass true fits limit files h es new lines → GoesOn h new
+  all_go : (h new : History) (es : List Event) (lines : List ℕ) → AllByRecursion IsInRange es → run.AllPass true fits limit files h es new lines → GoesOnByUsers h new
   all_go h _ [] _ ranges (run.NoEvents _) = nothing_more h
   all_go h new (e ∷ es) _ ranges (run.Next _ mid _ _ _ line lines passes all) =
       goes_first h mid new (passed h mid e line ranges.0 passes) (all_go mid new es lines ranges.1 all)
@@ -106,14 +106,14 @@ module _ (fits : History → Write → Bool) (limit : ℕ) (files : run.Files) w
       let rest = ranges_of earlier e later ranges.1 in
       ((ranges.0, rest.0), rest.1)
 
-  ends : (h new : History) (es : List Event) (before now : Option (List ℕ)) (result : Result Unit Halt) → AllByRecursion IsInRange es → run.Runs true fits limit files h es new before now result → GoesOn h new
+  ends : (h new : History) (es : List Event) (before now : Option (List ℕ)) (result : Result Unit Halt) → AllByRecursion IsInRange es → run.Runs true fits limit files h es new before now result → GoesOnByUsers h new
   ends h new es before now (Ok done) ranges (lines, all, puts) = all_go h new es lines ranges all
   ends h new es before now (Err end) ranges halts =
       let r = ranges_of halts.earlier halts.at halts.later (subst (AllByRecursion IsInRange) halts.split ranges) in
       goes_on h halts.mid new (all_go h halts.mid halts.earlier halts.lines r.0 halts.passed)
       (goes_first halts.mid new new (halted halts.mid new halts.at halts.between now end r.1 halts.halted) (nothing_more new))
 
-  pub runs_go_on : (h new : History) (es : List Event) (before now : Option (List ℕ)) (result : Result Unit Halt) → All IsInRange es → run.Runs true fits limit files h es new before now result → GoesOn h new
+  pub runs_go_on : (h new : History) (es : List Event) (before now : Option (List ℕ)) (result : Result Unit Halt) → All IsInRange es → run.Runs true fits limit files h es new before now result → GoesOnByUsers h new
   runs_go_on h new es before now result ranges is = ends h new es before now result (recursion_from_All IsInRange es ranges) is
 
 -- a history stays lawful by users' writes
@@ -122,6 +122,6 @@ writes_lawful is_valid accepts h [] users lawful = lawful
 writes_lawful is_valid accepts h (w ∷ ws) users lawful =
     writes_lawful is_valid accepts (After w h) ws users.1 (stays_lawful is_valid accepts None h users.0.0 w users.0.2 lawful)
 
-pub goes_on_lawful : (is_valid : List ℕ → Bool) (accepts : Accepts is_valid) (old new : History) → GoesOn old new → IsLawful is_valid old → IsLawful is_valid new
+pub goes_on_lawful : (is_valid : List ℕ → Bool) (accepts : Accepts is_valid) (old new : History) → GoesOnByUsers old new → IsLawful is_valid old → IsLawful is_valid new
 goes_on_lawful is_valid accepts old new goes lawful =
     subst (λ (x : History). IsLawful is_valid x) (sym goes.extends) (writes_lawful is_valid accepts old goes.writes goes.users lawful)

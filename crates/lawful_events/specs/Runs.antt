@@ -11,7 +11,7 @@ AreUsersWrites h [] = Unit {0}
 AreUsersWrites h (w ∷ writes) = IsUsersWrite h w × AreUsersWrites (After w h) writes
 
 -- The history goes on from the old one by users' writes, one after the other.
-pub record GoesOn (old new : History) : Type 0 where
+pub record GoesOnByUsers (old new : History) : Type 0 where
   pub writes : List Write
   pub users : AreUsersWrites old writes
   pub extends : new ≡ after_all old writes

@@ -16,7 +16,7 @@ ghost use Rattle.event_runs.specs.declared.halts.Halt.{Halt};
 ghost use Rattle.lawful_events.specs.Asks.{IsUsersWrite};
 ghost use Rattle.lawful_events.specs.Keeps.{KeepsCatalog, KeepsPlan, KeepsResolution};
 ghost use Rattle.lawful_events.specs.Rules.{KeepsRules};
-ghost use Rattle.lawful_events.specs.Runs.{Accepts, GoesOn};
+ghost use Rattle.lawful_events.specs.Runs.{Accepts, GoesOnByUsers};
 
 /// A write that an event asks for keeps the rules of users.
 pub fn users_writes_keep_the_rules()
@@ -65,6 +65,6 @@ pub fn histories_stay_lawful()
 /// the run ends, and that is lawful where the old one was.
 pub fn runs_stay_lawful()
     ensures extends { (fits : History → Write → Bool) (limit : ℕ) (files : Files) (h new : History) (es : List Event) (before now : Option (List ℕ)) (result : Result Unit Halt)
-        → All IsInRange es → Runs true fits limit files h es new before now result → GoesOn h new }
-    ensures lawful { (is_valid : List ℕ → Bool) → Accepts is_valid → (h new : History) → GoesOn h new → IsLawful is_valid h → IsLawful is_valid new }
+        → All IsInRange es → Runs true fits limit files h es new before now result → GoesOnByUsers h new }
+    ensures lawful { (is_valid : List ℕ → Bool) → Accepts is_valid → (h new : History) → GoesOnByUsers h new → IsLawful is_valid h → IsLawful is_valid new }
 {}

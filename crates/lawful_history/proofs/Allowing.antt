@@ -8,9 +8,10 @@ use Rattle.cluster_objects.specs.Stamps.{times, stamps_of}
 use Rattle.cluster_history.specs.History.{History, slot, slot_in}
 use Rattle.cluster_history.specs.Views.{View, is_visible}
 use Rattle.lawful_history.specs.Counting.{is_installer}
-use Rattle.lawful_history.specs.Installing.{plan_key, key_of, step_stamp, plan_write, step_write, with_phase, with_step, aim, Move, Rest, Begin, Finish, Fail, Aim, Land, move_write, has_body, is_kept}
+use Rattle.lawful_history.specs.Installing.{install_key, key_of, step_stamp, plan_write, step_write, with_phase, with_step, aim, Move, Rest, Begin, Finish, Fail, Aim, Land, move_write, has_body, is_kept}
 use Rattle.lawful_history.specs.Lawful.{last_plan, started, is_early, StateLater, PlanLater, IsStepOf, MakesItsKind}
-use Rattle.lawful_history.specs.Sound.{StateFits, WaitsForApproval, IsUntouchedEarly, IsSoundHistory, GoesOn}
+use Rattle.lawful_history.specs.Sound.{WaitsForApproval, IsUntouchedEarly}
+use Rattle.lawful_history.proofs.Invariant.{StateFits, IsSoundHistory, GoesOn}
 use Rattle.cluster_objects.specs.declared.keys.Key.{Key}
 use Rattle.cluster_history.specs.declared.slots.Slot.{Slot}
 use Rattle.cluster_objects.specs.declared.keys.Stamp.{Stamp}
@@ -103,7 +104,7 @@ module _ (h : History) (w : Write) (sound : IsSoundHistory h) (plan p : PlanStat
   pub replan : Replans h w plan p → Changes h w
   replan r = new_plan h w sound p is (record {
     plan = (let old = sound.plans w.key plan kind last in record {
-      named = subst (λ n. w.key ≡ plan_key w.key.namespace n) (sym r.number) old.named;
+      named = subst (λ n. w.key ≡ install_key w.key.namespace n) (sym r.number) old.named;
       distinct = λ i j s t at at' same.
           let b = r.back i s at in let c = r.back j t at' in
           old.distinct i j b.0 c.0 b.1 c.1 (sym b.2 ∙ same ∙ c.2);
@@ -279,7 +280,7 @@ module _ (h : History) (sound : IsSoundHistory h) (old : History) (sound_old : I
 
   key_of-seen : (i : ℕ) → key_of (seen_stamp i) ≡ key
   unfolding seen_stamp
-  key_of-seen i = sym ((sound_old.plans key plan kind was).named ∙ ap (λ ns. plan_key ns plan.number) namespace)
+  key_of-seen i = sym ((sound_old.plans key plan kind was).named ∙ ap (λ ns. install_key ns plan.number) namespace)
 
   -- how often a step's stamp stood in the slot that the view shows
   seen_times : (i : ℕ) (s : Step) → slice_get plan.steps i ≡ Some s → times (seen_stamp i) (slot_in v.slots s.key).stamps ≡ times (step_stamp key plan i) (slot old s.key).stamps

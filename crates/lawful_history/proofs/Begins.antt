@@ -5,9 +5,10 @@ use Rattle.std.specs.List.{slice_get}
 use Rattle.cluster_objects.specs.Kinds.{is_plan_key, as_plan, plan_at}
 use Rattle.cluster_objects.specs.Stamps.{times}
 use Rattle.cluster_history.specs.History.{Start, IsBase, state, slot, slot_in, times_in}
-use Rattle.lawful_history.specs.Installing.{plan_key, key_of, step_stamp}
-use Rattle.lawful_history.specs.Lawful.{last_plan, started, is_early, is_waiting}
-use Rattle.lawful_history.specs.Sound.{StateFits, StepStands, IsSoundHistory, IsSound}
+use Rattle.lawful_history.specs.Installing.{install_key, key_of, step_stamp}
+use Rattle.lawful_history.specs.Lawful.{last_plan, started, is_early, is_early_plan}
+use Rattle.lawful_history.specs.Sound.{StepStands, IsSound}
+use Rattle.lawful_history.proofs.Invariant.{StateFits, IsSoundHistory}
 use Rattle.cluster_objects.specs.declared.keys.Key.{Key}
 use Rattle.cluster_objects.specs.declared.keys.Stamp.{Stamp}
 use Rattle.cluster_history.specs.declared.slots.Slot.{Slot}
@@ -28,7 +29,7 @@ pub plan_at-is : (key : Key) (o : Option Object) → is_plan_key key ≡ true �
 plan_at-is key o kind = ap (λ b. cond b (as_plan o) None) kind
 
 -- what waits by its status is a plan in Planning or RequiresApproval
-early_of : (o : Option Object) (plan : PlanStatus) → as_plan o ≡ Some plan → is_waiting o ≡ is_early plan.phase
+early_of : (o : Option Object) (plan : PlanStatus) → as_plan o ≡ Some plan → is_early_plan o ≡ is_early plan.phase
 early_of None plan is = absurd (cc)
 early_of (Some object) plan is = by_status object.status is
   where
@@ -41,7 +42,7 @@ early_of (Some object) plan is = by_status object.status is
     by_status (Deployment x) is = absurd (cc)
     by_status (Resolution x) is = absurd (cc)
 
-waits_is : (o : Option Object) → is_waiting o ≡ true → (plan : PlanStatus) × (as_plan o ≡ Some plan) × (is_early plan.phase ≡ true)
+waits_is : (o : Option Object) → is_early_plan o ≡ true → (plan : PlanStatus) × (as_plan o ≡ Some plan) × (is_early plan.phase ≡ true)
 waits_is None is = absurd (cc)
 waits_is (Some object) is = by_status object.status is
   where
@@ -148,7 +149,7 @@ module _ (is_valid : List ℕ → Bool) (base : Base) (is_base : IsBase base) (s
 
   -- the plan that waits has only Unknown steps, so none of its stamps stands anywhere
   idle : (stamp : Stamp) (key : Key) → (plan : PlanStatus) → as_plan (at (key_of stamp)).object ≡ Some plan → is_early plan.phase ≡ true → one stamp key ≡ 0
-  unfolding at all one plan_key
+  unfolding at all one install_key
   idle stamp key plan is early = elim (cases_lt 0 (one stamp key)) [
     | inl some ↦
         let found = step_at stamp key plan is some in
@@ -189,7 +190,7 @@ module _ (is_valid : List ℕ → Bool) (base : Base) (is_base : IsBase base) (s
       le_all : (stamp : Stamp) (key : Key) → times stamp (slot_in base.slots key).stamps ≤ times_in stamp base.slots
       le_all stamp key = one-le-all stamp base.slots key
 
-      begun : (key : Key) (plan : PlanStatus) → as_plan (slot_in base.slots key).object ≡ Some plan → plan.phase ≡ phase.Installing → (not (eqb (slot_in base.slots key).version 0) && not (is_waiting (slot_in base.slots key).object)) ≡ true
+      begun : (key : Key) (plan : PlanStatus) → as_plan (slot_in base.slots key).object ≡ Some plan → plan.phase ≡ phase.Installing → (not (eqb (slot_in base.slots key).version 0) && not (is_early_plan (slot_in base.slots key).object)) ≡ true
       begun key plan is installing =
-          let late : is_waiting (slot_in base.slots key).object ≡ false = early_of (slot_in base.slots key).object plan is ∙ ap is_early installing in
+          let late : is_early_plan (slot_in base.slots key).object ≡ false = early_of (slot_in base.slots key).object plan is ∙ ap is_early installing in
           and_from _ _ (ap not (ne_eqb (slot_in base.slots key).version 0 (λ z. let e : None ≡ Some plan = sym (ap as_plan (never key z)) ∙ is in absurd (cc)))) (ap not late)

@@ -6,9 +6,10 @@ use Rattle.cluster_objects.specs.Kinds.{is_plan_key}
 use Rattle.cluster_objects.specs.Stamps.{times, stamps_of}
 use Rattle.cluster_history.specs.History.{History, Start, After, slot}
 use Rattle.lawful_history.specs.Counting.{is_installer, is_for, writes_for}
-use Rattle.lawful_history.specs.Installing.{plan_key, key_of, step_stamp}
+use Rattle.lawful_history.specs.Installing.{install_key, key_of, step_stamp}
 use Rattle.lawful_history.specs.Lawful.{last_plan}
-use Rattle.lawful_history.specs.Sound.{IsSoundHistory, IsLawful}
+use Rattle.lawful_history.specs.Sound.{IsLawful}
+use Rattle.lawful_history.proofs.Invariant.{IsSoundHistory}
 use Rattle.cluster_objects.specs.declared.keys.Key.{Key}
 use Rattle.cluster_objects.specs.declared.keys.Stamp.{Stamp}
 use Rattle.cluster_objects.specs.declared.plans.StepState.{StepState}
@@ -76,7 +77,7 @@ last-some h key plan = refl
 
 -- a stamp is that of the step that it names
 named : (stamp : Stamp) (plan : PlanStatus) → stamp.plan ≡ plan.number → step_stamp (key_of stamp) plan stamp.step ≡ stamp
-unfolding plan_key
+unfolding install_key
 named stamp plan number = ap (λ n. let x : Stamp = record { namespace = stamp.namespace; plan = n; step = stamp.step } in x) (sym number)
 
 for-le : (key : Key) (w : Write) → one (is_for key w) ≤ one (is_installer w.by)

@@ -12,7 +12,8 @@ use Rattle.cluster_objects.specs.Stamps.{times}
 use Rattle.cluster_history.specs.History.{History, Start, After, Slots, IsInOrder, IsBase, base_of, position, state, slot, slot_in, never_written, after_write, times_in, carried}
 use Rattle.lawful_history.specs.Installing.{key_of, step_stamp}
 use Rattle.lawful_history.specs.Lawful.{last_plan}
-use Rattle.lawful_history.specs.Sound.{StateFits, StepStands, IsSoundHistory, IsSound, IsLawful}
+use Rattle.lawful_history.specs.Sound.{StepStands, IsSound, IsLawful}
+use Rattle.lawful_history.proofs.Invariant.{StateFits, IsSoundHistory}
 use Rattle.cluster_objects.specs.declared.keys.Key.{Key}
 use Rattle.cluster_objects.specs.declared.keys.Stamp.{Stamp}
 use Rattle.cluster_objects.specs.declared.objects.Object.{Object}

@@ -7,7 +7,7 @@ use Rattle.cluster_history.specs.History.{History, After, position, slot}
 use Rattle.lawful_history.specs.Counting.{is_installer}
 use Rattle.lawful_history.specs.Installing.{key_of, step_stamp}
 use Rattle.lawful_history.specs.Lawful.{last_plan, started}
-use Rattle.lawful_history.specs.Sound.{StateFits, IsSoundHistory}
+use Rattle.lawful_history.proofs.Invariant.{StateFits, IsSoundHistory}
 use Rattle.cluster_objects.specs.declared.keys.Key.{Key}
 use Rattle.cluster_objects.specs.declared.keys.Stamp.{Stamp}
 use Rattle.cluster_objects.specs.declared.plans.Step.{Step}

@@ -14,7 +14,8 @@ use Rattle.cluster_history.specs.Views.{View, view, is_visible}
 use Rattle.lawful_history.specs.Counting.{is_installer}
 use Rattle.lawful_history.specs.Installing.{key_of, step_stamp, move_write, next_move, installer_writes}
 use Rattle.lawful_history.specs.Lawful.{last_plan, started, PlanLater, IsAllowed, Aside, Removes, Approves, Creates, Installs}
-use Rattle.lawful_history.specs.Sound.{StateFits, IsSoundHistory, GoesOn, IsLawful}
+use Rattle.lawful_history.specs.Sound.{IsLawful}
+use Rattle.lawful_history.proofs.Invariant.{StateFits, IsSoundHistory, GoesOn}
 use Rattle.cluster_objects.specs.declared.keys.Key.{Key}
 use Rattle.cluster_history.specs.declared.slots.Slot.{Slot}
 use Rattle.cluster_history.specs.declared.slots.Base.{Base}

@@ -4,6 +4,7 @@ pub mod Catalogs
 pub mod Counts
 pub mod Efforts
 pub mod Ends
+pub mod Invariant
 pub mod Landing
 pub mod Law
 pub mod Later

@@ -5,7 +5,7 @@ use Rattle.std.specs.List.Sorted.{IsStrictlySortedBy}
 use Rattle.std.specs.Option.{option_or}
 use Rattle.cluster_objects.specs.Kinds.{is_catalog_key, is_plan_key, as_plan}
 use Rattle.cluster_history.specs.History.{History, Start, After, empty, earlier, slot, first_writes, carried, times_in}
-use Rattle.lawful_history.specs.Installing.{plan_key, step_stamp}
+use Rattle.lawful_history.specs.Installing.{install_key, step_stamp}
 use Rattle.lawful_history.specs.Lawful.{last_plan, StateLater, PlanLater, IsPlan, IsNeutral, IsAllowed, Aside}
 use Rattle.lawful_history.specs.Sound.{IsSoundBase, IsLawful}
 use Rattle.cluster_objects.specs.declared.keys.Key.{Key}
@@ -61,7 +61,7 @@ module _ (is_valid : List ℕ → Bool) (h : History) (lawful : IsLawful is_vali
       → key.namespace ≡ other.namespace → plan.number ≡ q.number → (key ≡ other) × (later : PlanStatus) × (last_plan h key ≡ Some later) × PlanLater plan later × PlanLater q later
   one_number a b key other plan q kind kind' was was' namespace number =
       let same : key ≡ other =
-      (named_ever a key plan kind was).named ∙ ap (λ ns. plan_key ns plan.number) namespace ∙ ap (λ n. plan_key other.namespace n) number ∙ sym (named_ever b other q kind' was').named in
+      (named_ever a key plan kind was).named ∙ ap (λ ns. install_key ns plan.number) namespace ∙ ap (λ n. install_key other.namespace n) number ∙ sym (named_ever b other q kind' was').named in
       let on = goes_on_from is_valid h lawful a key plan kind was in
       let on' = goes_on_from is_valid h lawful b other q kind' was' in
       let one : on'.0 ≡ on.0 = Some-same _ _ _ on'.1 (ap (λ k. last_plan h k) (sym same) ∙ on.1) in

@@ -6,9 +6,10 @@ use Rattle.cluster_objects.specs.Stamps.{stamps_of, times}
 use Rattle.cluster_objects.specs.Kinds.{as_plan, is_plan_key}
 use Rattle.cluster_history.specs.History.{History, After, position, slot}
 use Rattle.lawful_history.specs.Counting.{is_installer}
-use Rattle.lawful_history.specs.Installing.{plan_key, key_of, step_stamp, is_kept}
+use Rattle.lawful_history.specs.Installing.{install_key, key_of, step_stamp, is_kept}
 use Rattle.lawful_history.specs.Lawful.{last_plan, started, is_installing, is_installing_phase, StateLater, PlanLater, IsPlan}
-use Rattle.lawful_history.specs.Sound.{StateFits, WaitsForApproval, IsUntouchedEarly, IsSoundHistory, GoesOn}
+use Rattle.lawful_history.specs.Sound.{WaitsForApproval, IsUntouchedEarly}
+use Rattle.lawful_history.proofs.Invariant.{StateFits, IsSoundHistory, GoesOn}
 use Rattle.cluster_objects.specs.declared.keys.Key.{Key}
 use Rattle.cluster_history.specs.declared.slots.Slot.{Slot}
 use Rattle.cluster_objects.specs.declared.keys.Stamp.{Stamp}
@@ -26,7 +27,7 @@ use Rattle.lawful_history.proofs.Slots.{same_or_other, last_plan-written, last_p
 use Rattle.lawful_history.proofs.Later.{PlanLater-trans}
 
 pub is_plan_key-key_of : (stamp : Stamp) → is_plan_key (key_of stamp) ≡ true
-unfolding plan_key
+unfolding install_key
 is_plan_key-key_of stamp = refl
 
 -- a write leaves the newest plan of a key as it is, and is none by Installer there
@@ -306,7 +307,7 @@ module _ (w : Write) (h : History) (sound : IsSoundHistory h) where
         stays key plan later i s t v kind last at aimed past now at' is mid change =
             let m = between key plan later i s t v at aimed now at' is mid change in
             let so = so_far.stays key plan m.0 i s m.1 v kind last at aimed past m.2 m.3 m.4 in
-            let named : key_of (step_stamp key plan i) ≡ key = ap (λ n. plan_key key.namespace n) (sym m.5.number) ∙ sym (sound.plans key m.0 kind m.2).named in
+            let named : key_of (step_stamp key plan i) ≡ key = ap (λ n. install_key key.namespace n) (sym m.5.number) ∙ sym (sound.plans key m.0 kind m.2).named in
             elim (steady (step_stamp key plan i) s.key) [
               | inl same ↦ same ∙ so
               | inr lands ↦

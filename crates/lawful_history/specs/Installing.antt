@@ -22,12 +22,12 @@ use Rattle.cluster_objects.specs.declared.objects.Write.{Write}
 use Rattle.cluster_objects.specs.declared.objects.Writer.TheVariants as writer
 
 -- the key of the InstallPlan `install-N` of a namespace
-unfoldable pub plan_key : List ℕ → ℕ → Key
-plan_key namespace number = record { group = operators; kind = codes "InstallPlan"; namespace = namespace; name = codes "install-" ++ decimal number }
+unfoldable pub install_key : List ℕ → ℕ → Key
+install_key namespace number = record { group = operators; kind = codes "InstallPlan"; namespace = namespace; name = codes "install-" ++ decimal number }
 
 -- the key of the plan that a stamp names
 abbrev pub key_of : Stamp → Key
-key_of stamp = plan_key stamp.namespace stamp.plan
+key_of stamp = install_key stamp.namespace stamp.plan
 
 -- the stamp of a step of the plan at a key
 abbrev pub step_stamp : Key → PlanStatus → ℕ → Stamp

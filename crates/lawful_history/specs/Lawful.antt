@@ -6,7 +6,7 @@ use Rattle.cluster_objects.specs.Kinds.{is_catalog_key, is_subscription_key, is_
 use Rattle.cluster_objects.specs.Stamps.{stamps_of}
 use Rattle.cluster_history.specs.History.{History, Start, After, base_of, position, slot, slot_in}
 use Rattle.cluster_history.specs.Views.{view}
-use Rattle.lawful_history.specs.Installing.{plan_key, installer_writes}
+use Rattle.lawful_history.specs.Installing.{install_key, installer_writes}
 use Rattle.cluster_objects.specs.declared.keys.Key.{Key}
 use Rattle.cluster_objects.specs.declared.plans.Step.{Step}
 use Rattle.cluster_objects.specs.declared.plans.StepState.{StepState}
@@ -44,13 +44,13 @@ is_installing None = false
 is_installing (Some object) = elim object.status [ status.Plan plan ↦ is_installing_phase plan.phase | _ ↦ false ]
 
 -- what stands there is a plan in Planning or RequiresApproval
-abbrev pub is_waiting : Option Object → Bool
-is_waiting None = false
-is_waiting (Some object) = elim object.status [ status.Plan plan ↦ is_early plan.phase | _ ↦ false ]
+abbrev pub is_early_plan : Option Object → Bool
+is_early_plan None = false
+is_early_plan (Some object) = elim object.status [ status.Plan plan ↦ is_early plan.phase | _ ↦ false ]
 
 -- Some write put the plan at the key into Installing. A plan that the base no longer holds, or holds in another phase than Planning or RequiresApproval, counts as one.
 unfoldable pub started : History → Key → Bool
-started (Start base) key = not ((slot_in base.slots key).version == 0) && not (is_waiting (slot_in base.slots key).object)
+started (Start base) key = not ((slot_in base.slots key).version == 0) && not (is_early_plan (slot_in base.slots key).object)
 started (After w h) key = (same_key w.key key && is_installing w.object) || started h key
 
 -- A step's state goes from Unknown to Present, or from Unknown to Aimed and then to Created or Overtaken, and stays.
@@ -92,7 +92,7 @@ pub record IsStepOf (key : Key) (step : Step) : Type 0 where
 
 -- a plan bears its own number, and its steps have distinct keys
 pub record IsPlan (key : Key) (plan : PlanStatus) : Type 0 where
-  pub named : key ≡ plan_key key.namespace plan.number
+  pub named : key ≡ install_key key.namespace plan.number
   pub distinct : (i j : ℕ) (s t : Step) → slice_get plan.steps i ≡ Some s → slice_get plan.steps j ≡ Some t → s.key ≡ t.key → i ≡ j
   pub steps : (i : ℕ) (s : Step) → slice_get plan.steps i ≡ Some s → IsStepOf key s
 

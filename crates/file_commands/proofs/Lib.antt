@@ -1,4 +1,4 @@
-pub mod Answering
 pub mod Catalogs
 pub mod Found
 pub mod Ran
+pub mod Unopened

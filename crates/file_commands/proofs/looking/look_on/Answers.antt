@@ -3,7 +3,7 @@ use Rattle.log_store.specs.Starts.{cause_of, disk_after, disk_of, told}
 use Rattle.log_store.specs.Store.{store_history}
 use Rattle.object_store.specs.Puts.{Reopens, fault_failed}
 use Rattle.file_commands.specs.Answers.{Answers, NoProblem, Sees}
-use Rattle.file_commands.proofs.Answering.{unopened}
+use Rattle.file_commands.proofs.Unopened.{unopened}
 use Rattle.file_commands.proofs.Found.{opens_history}
 use Rattle.file_commands.proofs.looking.look_on.Goals as goal
 

@@ -1,4 +1,4 @@
-use Rattle.std.proofs.Common.{Result, Ok, Err, refl, sym, ap, ◌∙◌}
+use Rattle.std.proofs.Common.{Result, Ok, Err}
 use Rattle.event_runs.specs.declared.halts.Halt.{Halt}
 use Rattle.log_store.specs.Starts.{cause_of, disk_after, disk_of, told}
 use Rattle.object_store.specs.Puts.{Reopens, fault_failed}

@@ -1,4 +1,4 @@
-pub mod Answering
 pub mod Catalogs
 pub mod Found
-pub mod Running
+pub mod Ran
+pub mod Unopened

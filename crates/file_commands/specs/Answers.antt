@@ -2,6 +2,8 @@
 use Rattle.std.specs.Prelude.{◌≡◌, Bool, true, false, ℕ, List, Option, Result, Ok, Err}
 use Rattle.cluster_history.specs.History.{History}
 use Rattle.cluster_history.specs.Views.{View}
+use Rattle.object_store.specs.declared.cluster.ClusterFault.{ClusterFault}
+use Rattle.object_store.specs.declared.cluster.ClusterFault.TheVariants as opening
 use Rattle.problem_build.specs.declared.building.BuildFault.TheVariants as build
 use Rattle.catalog_choice.specs.Deciding.{IsAnsweredBy}
 use Rattle.catalog_choice.specs.declared.deciding.Answer.{Answer}
@@ -21,9 +23,15 @@ Answers Gives IsTooLarge found (Err Memory) = Unit {0}
 abbrev pub NoProblem : History → ℕ → Type 0
 NoProblem h count = ⊥
 
--- what a namespace sees of a history
-abbrev pub IsSeen : List ℕ → History → Option View → Type 0
-IsSeen namespace h seen = seen ≡ seen_in h namespace
+-- This is what a namespace sees of a history.
+abbrev pub Sees : List ℕ → Option View → History → Unit {0} → Type 0
+Sees namespace seen h done = seen ≡ seen_in h namespace
+
+-- why nothing is seen, where no store was opened
+abbrev pub fault_of : ClusterFault → FileFault
+fault_of opening.Failed = Failed
+fault_of (opening.Damaged at) = Damaged at
+fault_of opening.Memory = Memory
 
 -- What is decided in a namespace of a history, with no more lemmas than the budget, and the size of its problem where that is above the limit.
 abbrev pub IsDecision : List ℕ → ℕ → History → Answer → Type 0

@@ -6,6 +6,8 @@ use Rattle.event_runs.specs.Runs as runs
 use Rattle.event_runs.specs.declared.halts.Halt.{Halt}
 use Rattle.log_store.specs.Store.{fits}
 use Rattle.object_store.specs.declared.TheConstants.{WRITE_LIMIT}
+use Rattle.object_store.specs.declared.cluster.ClusterFault.{ClusterFault}
+use Rattle.object_store.specs.declared.cluster.ClusterFault.TheVariants as opening
 use Rattle.file_commands.specs.declared.faults.RunFault.{RunFault}
 use Rattle.file_commands.specs.declared.faults.RunFault.TheVariants as fault
 
@@ -21,6 +23,12 @@ FileRuns tells files found es left before now (Err (fault.Damaged at)) = (found 
 FileRuns tells files found es left before now (Err fault.Failed) = (left ≡ found) × (now ≡ before)
 FileRuns tells files found es left before now (Err fault.Memory) = (left ≡ found) × (now ≡ before)
 FileRuns tells files found es left before now (Err (fault.Halted halt)) = RunsBetween tells files found es left before now (Err halt)
+
+-- why no event was applied, where no store was opened
+abbrev pub fault_of : ClusterFault → RunFault
+fault_of opening.Failed = fault.Failed
+fault_of (opening.Damaged at) = fault.Damaged at
+fault_of opening.Memory = fault.Memory
 
 -- the store was opened
 abbrev pub was_opened : Result Unit RunFault → Bool

@@ -29,10 +29,13 @@ pub fn show_file<D: Disk>(
     ensures tells { D.tells disk.new ≡ D.tells disk.old }
     ensures cause { HasCause (D.faults disk.old) (D.faults disk.new) (file_failed result ≡ true) }
 {
-    let seen = look_file(alloc, namespace, disk)?;
-    match show_seen(alloc, &seen) {
-        Ok(lines) => Ok(lines),
-        Err(Memory) => Err(FileFault::Memory),
+    let mut seen = None;
+    match look_file(alloc, namespace, disk, &mut seen) {
+        Ok(()) => match show_seen(alloc, &seen) {
+            Ok(lines) => Ok(lines),
+            Err(Memory) => Err(FileFault::Memory),
+        },
+        Err(fault) => Err(fault),
     }
 }
 
@@ -51,10 +54,15 @@ pub fn decide_file<D: Disk>(
     ensures tells { D.tells disk.new ≡ D.tells disk.old }
     ensures cause { HasCause (D.faults disk.old) (D.faults disk.new) (file_failed result ≡ true) }
 {
-    let seen = look_file(alloc, namespace, disk)?;
-    match decide_seen(alloc, &seen, budget) {
-        Ok(answer) => Ok(answer),
-        Err(BuildFault::TooManyVariables { count }) => Err(FileFault::TooManyVariables { count }),
-        Err(BuildFault::Memory) => Err(FileFault::Memory),
+    let mut seen = None;
+    match look_file(alloc, namespace, disk, &mut seen) {
+        Ok(()) => match decide_seen(alloc, &seen, budget) {
+            Ok(answer) => Ok(answer),
+            Err(BuildFault::TooManyVariables { count }) => {
+                Err(FileFault::TooManyVariables { count })
+            }
+            Err(BuildFault::Memory) => Err(FileFault::Memory),
+        },
+        Err(fault) => Err(fault),
     }
 }

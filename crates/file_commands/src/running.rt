@@ -1,11 +1,12 @@
 // A run of events over the file of a disk.
-ghost use Rattle.std.specs.Prelude.{◌≡◌, ℕ, Bool, true, false, Result, All};
+ghost use Rattle.std.specs.Prelude.{◌≡◌, ℕ, true, false, Result, Err, All};
 ghost use Rattle.std.specs.List.{list_any};
 ghost use Rattle.cluster_history.specs.History.{History};
 ghost use Rattle.event_script.specs.Ranges.{IsInRange};
 ghost use Rattle.folder_events.specs.Events.{is_of_folder};
 ghost use Rattle.olm_io.specs.Outside.{HasCause};
-ghost use Rattle.file_commands.specs.FileRuns.{FileRuns, disk_failed, folder_failed, output_failed, was_opened};
+ghost use Rattle.file_commands.specs.FileRuns.{FileRuns, disk_failed, fault_of, folder_failed, output_failed, was_opened};
+ghost use Rattle.log_store.specs.Starts.{cause_of, disk_of};
 ghost use Rattle.file_commands.specs.Opens.{Opens};
 
 use crate::RunFault;
@@ -19,6 +20,18 @@ use olm_folder::Folder;
 use olm_io::Sink;
 use std::alloc::Global;
 use std::marker::Brand;
+
+// Lets a start end without a store. The disk is given back.
+fn not_run<D>(fault: StartFault<D>) -> (Result<(), RunFault>, D)
+    ensures end { result.0 ≡ Err (fault_of (cause_of fault)) }
+    ensures disk { result.1 ≡ disk_of fault }
+{
+    match fault {
+        StartFault::Damaged { at, disk } => (Err(RunFault::Damaged { at }), disk),
+        StartFault::Failed { disk } => (Err(RunFault::Failed), disk),
+        StartFault::Memory { disk } => (Err(RunFault::Memory), disk),
+    }
+}
 
 // Runs the events over the file of a disk of its own, and gives the disk back.
 fn run_on<D: Disk, F: Folder, O: Sink>(
@@ -43,9 +56,7 @@ fn run_on<D: Disk, F: Folder, O: Sink>(
             Ok(()) => (Ok(()), store.close()),
             Err(halt) => (Err(RunFault::Halted(halt)), store.close()),
         },
-        Err(StartFault::Damaged { at, disk }) => (Err(RunFault::Damaged { at }), disk),
-        Err(StartFault::Failed { disk }) => (Err(RunFault::Failed), disk),
-        Err(StartFault::Memory { disk }) => (Err(RunFault::Memory), disk),
+        Err(fault) => not_run(fault),
     }
 }
 
@@ -77,6 +88,7 @@ fn run_lent<'a, D: Disk, B: Borrow, F: Folder, O: Sink>(
 /// Runs the events over the store in the file of this disk. Where the disk tells what it holds, the history before is
 /// what the file stood for, and the one afterwards is what it stands for then: also after a failed call the file isn't
 /// damaged. Where no store is opened nothing is put, and folder and output stay as they are.
+#[tactic(auto, using(crate::proofs::Catalogs::has_catalog))]
 pub fn run_file<D: Disk, F: Folder, O: Sink>(
     alloc: Global,
     events: &[Event],

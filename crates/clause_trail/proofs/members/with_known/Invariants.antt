@@ -1,0 +1,8 @@
+use Rattle.std.proofs.Common.{◌≡◌, ◌++◌, take}
+use Rattle.std.specs.List.{filter}
+use Rattle.derivations.specs.Clauses.{positive, is_in}
+use Rattle.clause_trail.specs.Trails.{literals}
+use Rattle.clause_trail.proofs.members.with_known.Given as goal
+
+abbrev pub invariant-loop-member : goal.invariant-loop-member
+invariant-loop-member l = l.named.items ≡ l.fn.first.items ++ filter (λ v. is_in (literals l.trail.entries) (positive v)) (take l.member-index l.members)

@@ -1,0 +1,4 @@
+pub mod Trails
+pub mod Kept
+pub mod Rows
+pub mod Scans

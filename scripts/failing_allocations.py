@@ -29,7 +29,11 @@ def content(run, name):
     return path.read_bytes() if path.exists() else b""
 
 
-def tried(run, folder, at, later):
+def tried(run, folder, file, at, later):
+    # each try begins with the same cluster file, or without one
+    (folder / "cluster.olm").unlink(missing_ok=True)
+    if file is not None:
+        (folder / "cluster.olm").write_bytes(file)
     environment = {"LD_PRELOAD": str(shim), "FAIL_AT": str(at), "COUNT_TO": str(work / "count")}
     if later:
         environment["FAIL_ALL"] = "1"
@@ -44,12 +48,15 @@ for run in runs:
     folder.mkdir()
     if (run / "data").exists():
         shutil.copytree(run / "data", folder, dirs_exist_ok=True)
-    right = tried(run, folder, 0, False)
+    if (run / "before").exists():
+        subprocess.run([program, "run"], input=content(run, "before"), capture_output=True, timeout=60, cwd=folder)
+    file = (folder / "cluster.olm").read_bytes() if (folder / "cluster.olm").exists() else None
+    right = tried(run, folder, file, 0, False)
     count = int((work / "count").read_text())
     memory = 0
     for later in (False, True):
         for at in range(1, count + 1):
-            answer = tried(run, folder, at, later)
+            answer = tried(run, folder, file, at, later)
             total += 1
             memory += answer[0] == 5
             is_front = right[1].startswith(answer[1]) and answer[2] in (b"", b"olmctl: out of memory\n")

@@ -1,5 +1,6 @@
 -- What stays of a slot from an older history on, where the base is one.
-use Rattle.std.proofs.Common.{◌≡◌, ◌≤◌, Bool, ℕ, List, refl, sym, ap, ◌∙◌, arith, inl, inr, true}
+use Rattle.std.proofs.Common.{◌≡◌, ◌≤◌, ◌<◌, ◌+◌, Bool, ℕ, List, refl, sym, ap, ◌∙◌, arith, inl, inr, true, ◌≢◌, ◌⊎◌, Option, None, Some}
+use Rattle.std.specs.List.{slice_get}
 use Rattle.std.proofs.lemmas.Bool.{cases_lt}
 use Rattle.cluster_objects.specs.declared.keys.Key.{Key}
 use Rattle.cluster_history.specs.History.{History, Start, After, IsBase, base_of, never_written, position, slot, slot_in, state, first_writes}
@@ -36,6 +37,33 @@ nothing (After w h) key is_base is = elim (version-put w h key) [
   | inl e ↦ absurd (omega (arith, e.1, is))
   | inr e ↦ e.1 ∙ nothing h key is_base (sym (ap (λ (x : Slot). x.version) e.1) ∙ is)
 ]
+
+-- two keys have no version in common
+pub apart : (h : History) (a b : Key) → IsBase (base_of h) → 0 < (slot h a).version → (slot h a).version ≡ (slot h b).version → a ≡ b
+unfolding slot state
+apart (Start base) a b is_base some same =
+    let p = placed base.slots a some in
+    let q = placed base.slots b (omega (arith, some, same)) in
+    let i : p.0 ≡ q.0 = is_base.distinct p.0 q.0 (a, slot_in base.slots a) (b, slot_in base.slots b) p.1 q.1 same in
+    let both : Some (a, slot_in base.slots a) ≡ Some (b, slot_in base.slots b) = sym p.1 ∙ ap (λ n. slice_get base.slots n) i ∙ q.1 in
+    ap (λ (o : Option (Key × Slot)). key_in o) both
+  where
+    key_in : Option (Key × Slot) → Key
+    key_in None = a
+    key_in (Some e) = e.0
+apart (After w h) a b is_base some same = both (version-put w h a) (version-put w h b) (apart h a b is_base)
+  where
+    Put : Key → Type 0
+    Put k = ((w.key ≡ k) × ((slot (After w h) k).version ≡ position h + 1)) ⊎ ((w.key ≢ k) × (slot (After w h) k ≡ slot h k))
+
+    both : Put a → Put b → (0 < (slot h a).version → (slot h a).version ≡ (slot h b).version → a ≡ b) → a ≡ b
+    both (inl e) (inl f) rest = sym e.0 ∙ f.0
+    both (inl e) (inr f) rest = absurd (let s = ap (λ (x : Slot). x.version) f.1 in omega (arith, e.1, same, s, bound h b is_base))
+    both (inr e) (inl f) rest = absurd (let s = ap (λ (x : Slot). x.version) e.1 in omega (arith, f.1, same, s, bound h a is_base))
+    both (inr e) (inr f) rest =
+        let s : (slot (After w h) a).version ≡ (slot h a).version = ap (λ (x : Slot). x.version) e.1 in
+        let t : (slot (After w h) b).version ≡ (slot h b).version = ap (λ (x : Slot). x.version) f.1 in
+        rest (omega (arith, s, some)) (sym s ∙ same ∙ t)
 
 Kept : History → History → Key → Type 0
 Kept old new key = ((slot old key).version ≤ (slot new key).version) × ((slot old key).version ≡ (slot new key).version → slot old key ≡ slot new key)

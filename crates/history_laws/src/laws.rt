@@ -1,6 +1,6 @@
 // Laws of histories. Those of slots hold of each history whose base is one, and the others of each lawful history,
 // whatever test says which bytes are a valid catalog.
-ghost use Rattle.std.specs.Prelude.{◌≡◌, ◌≤◌, ◌⊎◌, List, ℕ, Bool, true, Some, None, slice_get};
+ghost use Rattle.std.specs.Prelude.{◌≡◌, ◌≤◌, ◌<◌, ◌⊎◌, List, ℕ, Bool, true, Some, None, slice_get};
 ghost use Rattle.cluster_objects.specs.Kinds.{is_plan_key, csv_at, subscription_at};
 ghost use Rattle.cluster_objects.specs.declared.keys.Key.{Key};
 ghost use Rattle.cluster_objects.specs.declared.keys.Stamp.{Stamp};
@@ -37,7 +37,8 @@ pub fn beginnings_nest()
 {}
 
 /// A key's version never falls and is at most the history's length. A key that has one version at an older length
-/// and now has the same slot at both, and so it is with what a view shows. A key of version 0 holds nothing.
+/// and now has the same slot at both, and so it is with what a view shows. A key of version 0 holds nothing, and no two
+/// keys have another version in common.
 pub fn slots_stay()
     ensures same { (h : History) (a : ℕ) (key : Key) → IsBase (base_of h)
         → (slot (first_writes a h) key).version ≡ (slot h key).version → slot (first_writes a h) key ≡ slot h key }
@@ -48,6 +49,7 @@ pub fn slots_stay()
     ensures grows { (h : History) (a : ℕ) (key : Key) → IsBase (base_of h) → (slot (first_writes a h) key).version ≤ (slot h key).version }
     ensures bound { (h : History) (key : Key) → IsBase (base_of h) → (slot h key).version ≤ position h }
     ensures nothing { (h : History) (key : Key) → IsBase (base_of h) → (slot h key).version ≡ 0 → slot h key ≡ never_written }
+    ensures apart { (h : History) (a b : Key) → IsBase (base_of h) → 0 < (slot h a).version → (slot h a).version ≡ (slot h b).version → a ≡ b }
 {}
 
 /// The first plan of a key is written by a resolver, not approved, with each step Unknown. It is in Planning, or in

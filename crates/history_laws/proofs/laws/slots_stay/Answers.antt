@@ -1,4 +1,4 @@
-use Rattle.history_laws.proofs.Keeping.{bound, nothing, grows, same, seen}
+use Rattle.history_laws.proofs.Keeping.{apart, bound, nothing, grows, same, seen}
 use Rattle.history_laws.proofs.Beginnings.{between}
 use Rattle.history_laws.proofs.laws.slots_stay.Goals as goal
 
@@ -19,3 +19,6 @@ returns-clause-nothing c h key is_base is = nothing h key is_base is
 
 pub returns-clause-between : goal.returns-clause-between
 returns-clause-between c h a b key is_base low is = between h a b key is_base low is
+
+pub returns-clause-apart : goal.returns-clause-apart
+returns-clause-apart c h a b is_base some is = apart h a b is_base some is

@@ -1,5 +1,5 @@
 use Rattle.std.proofs.Common.{◌≡◌}
-use Rattle.chain_check.proofs.checked.Given as goal
+use Rattle.certificate_cases.proofs.chains.last_answer.Given as goal
 
 -- no round changes the checker
 abbrev pub invariant-rounds : goal.invariant-rounds

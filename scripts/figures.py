@@ -1,9 +1,10 @@
 #!/usr/bin/env python3
-"""Draws the pictures of docs/figures from crates.txt and from the tables of docs/measurements.md.
+"""Draws the pictures of docs/figures from crates.txt, from the tables of docs/measurements.md and from examples/cluster.
 
     scripts/figures.py            writes docs/figures/*.svg
     scripts/figures.py --check    writes nothing, and fails if a picture isn't what would be drawn
 """
+import json
 import math
 import re
 import sys
@@ -120,6 +121,42 @@ def draw_resolve():
     return drawing.svg("The path of resolve and verify: both build the same problem; only resolve searches")
 
 
+def event_words(event):
+    """An event of a script in a few words."""
+    word = event.get("event")
+    if word is None:
+        return "apply " + event["kind"] + " " + event["metadata"]["name"]
+    return " ".join([word] + [event[key] for key in ("kind", "name") if key in event])
+
+
+def draw_run():
+    """The run of examples/cluster: each event, the write that it makes, and its line."""
+    events = [json.loads(line) for line in (ROOT / "examples/cluster/events.json").read_text().splitlines()]
+    lines = (ROOT / "examples/cluster/run.txt").read_text().splitlines()
+    drawing = Drawing(980, 60 + 46 * len(events))
+    for x, head in ((30, "events of the input"), (330, "writes in the cluster file"), (540, "lines printed")):
+        drawing.text(x, 30, head, 13, weight="bold")
+    last = None
+    for number, (event, line) in enumerate(zip(events, lines)):
+        y = 46 + 46 * number
+        written = re.search(r"version (\d+)$", line)
+        color = COLORS[0] if written else COLORS[1] if "refused" in line else SOFT
+        drawing.box(20, y, 260, 34, "#ffffff", color)
+        drawing.text(34, y + 22, event_words(event), 12)
+        drawing.text(540, y + 22, line, 11, INK)
+        if written:
+            drawing.box(330, y, 150, 34)
+            drawing.text(344, y + 22, "write " + written.group(1), 12, weight="bold")
+            drawing.arrow(280, y + 17, 330, y + 17, color)
+            drawing.arrow(480, y + 17, 532, y + 17, color)
+            if last is not None:
+                drawing.arrow(405, last + 34, 405, y)
+            last = y
+        else:
+            drawing.line(280, y + 17, 532, y + 17, color, 1.2, "4 4")
+    return drawing.svg("A run with its writes: an event writes once at most, and its line is printed after its write")
+
+
 def table_of(head):
     """The rows of the first table of docs/measurements.md whose head begins with these cells."""
     lines = (ROOT / "docs/measurements.md").read_text().splitlines()
@@ -203,7 +240,7 @@ def draw_growth():
 
 def main():
     stale = []
-    for name, draw in (("layers", draw_layers), ("resolve", draw_resolve), ("growth", draw_growth)):
+    for name, draw in (("layers", draw_layers), ("resolve", draw_resolve), ("run", draw_run), ("growth", draw_growth)):
         path, text = FIGURES / f"{name}.svg", draw()
         if "--check" not in sys.argv:
             FIGURES.mkdir(exist_ok=True)

@@ -69,6 +69,34 @@ pub fn is_resolution_key(key: &Key) -> bool
     has_kind(b"olmctl.local", b"Resolution", key)
 }
 
+/// Whether an upgrade strategy may stand at the key.
+pub fn is_strategy_key(key: &Key) -> bool
+    ensures { result ≡ spec.is_strategy_key key.now }
+{
+    has_kind(b"olmctl.local", b"Strategy", key)
+}
+
+/// Whether an OperatorGroup may stand at the key.
+pub fn is_group_key(key: &Key) -> bool
+    ensures { result ≡ spec.is_group_key key.now }
+{
+    has_kind(b"operators.coreos.com", b"OperatorGroup", key)
+}
+
+/// Whether claims may stand at the key.
+pub fn is_claims_key(key: &Key) -> bool
+    ensures { result ≡ spec.is_claims_key key.now }
+{
+    has_kind(b"olmctl.local", b"Claims", key)
+}
+
+/// Whether a lease may stand at the key.
+pub fn is_lease_key(key: &Key) -> bool
+    ensures { result ≡ spec.is_lease_key key.now }
+{
+    has_kind(b"olmctl.local", b"Lease", key)
+}
+
 /// The status of the object that a step makes.
 pub fn status_of(made: &Made) -> Result<Status, Memory>
     ensures { IfOk result (λ status. status ≡ spec.status_of made.now) }

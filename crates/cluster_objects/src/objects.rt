@@ -1,7 +1,7 @@
 // Objects and the writes that put and remove them.
 use crate::{
-    CatalogStatus, CsvStatus, Key, PlanStatus, Readiness, ResolutionStatus, Stamp,
-    SubscriptionStatus,
+    CatalogStatus, ClaimsStatus, CsvStatus, GroupStatus, Key, LeaseStatus, PlanStatus, Readiness,
+    ResolutionStatus, Stamp, StrategyStatus, SubscriptionStatus,
 };
 use olm_base::{Bytes, Name};
 use std::alloc::AllocError;
@@ -17,6 +17,10 @@ pub enum Status {
     Deployment(Readiness),
     Plan(PlanStatus),
     Resolution(ResolutionStatus),
+    Strategy(StrategyStatus),
+    Group(GroupStatus),
+    Claims(ClaimsStatus),
+    Lease(LeaseStatus),
 }
 
 /// An object, as it stands at its key.
@@ -65,6 +69,10 @@ impl Clone for Status {
             Status::Deployment(readiness) => Status::Deployment(*readiness),
             Status::Plan(status) => Status::Plan(status.clone()?),
             Status::Resolution(status) => Status::Resolution(status.clone()?),
+            Status::Strategy(status) => Status::Strategy(*status),
+            Status::Group(status) => Status::Group(status.clone()?),
+            Status::Claims(status) => Status::Claims(status.clone()?),
+            Status::Lease(status) => Status::Lease(*status),
         })
     }
 }

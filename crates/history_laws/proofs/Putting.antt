@@ -143,6 +143,10 @@ no_csv key (Some object) is = by_status object.status is
     by_status (status.Deployment x) is = nones (is_csv_key key)
     by_status (status.Plan x) is = nones (is_csv_key key)
     by_status (status.Resolution x) is = nones (is_csv_key key)
+    by_status (status.Strategy x) is = nones (is_csv_key key)
+    by_status (status.Group x) is = nones (is_csv_key key)
+    by_status (status.Claims x) is = nones (is_csv_key key)
+    by_status (status.Lease x) is = nones (is_csv_key key)
 
 pub no_subscription : (key : Key) (o : Option Object) → is_kept key o ≡ false → subscription_at key o ≡ None
 no_subscription key None is = nones (is_subscription_key key)
@@ -157,6 +161,10 @@ no_subscription key (Some object) is = by_status object.status is
     by_status (status.Deployment x) is = nones (is_subscription_key key)
     by_status (status.Plan x) is = nones (is_subscription_key key)
     by_status (status.Resolution x) is = nones (is_subscription_key key)
+    by_status (status.Strategy x) is = nones (is_subscription_key key)
+    by_status (status.Group x) is = nones (is_subscription_key key)
+    by_status (status.Claims x) is = nones (is_subscription_key key)
+    by_status (status.Lease x) is = nones (is_subscription_key key)
 
 new_csv : (key : Key) (m : Made) → MakesItsKind key m → (o : Option Object) (object : Object) → o ≡ Some object → object.status ≡ status_of m → (x : CsvStatus) → csv_at key o ≡ Some x → x.phase ≡ csv.Nothing
 new_csv key m makes o object is st x at = by_made m makes (ap (λ (s : Status). csv_at key (Some (record object { status = s }))) (sym st) ∙ ap (csv_at key) (sym is) ∙ at)

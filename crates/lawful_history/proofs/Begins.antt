@@ -15,7 +15,7 @@ use Rattle.cluster_history.specs.declared.slots.Slot.{Slot}
 use Rattle.cluster_history.specs.declared.slots.Base.{Base}
 use Rattle.cluster_objects.specs.declared.objects.Object.{Object}
 use Rattle.cluster_objects.specs.declared.objects.Status.{Status}
-use Rattle.cluster_objects.specs.declared.objects.Status.TheVariants.{Plain, Catalog, Subscription, Csv, Deployment, Plan, Resolution}
+use Rattle.cluster_objects.specs.declared.objects.Status.TheVariants.{Plain, Catalog, Subscription, Csv, Deployment, Plan, Resolution, Strategy, Group, Claims, Lease}
 use Rattle.cluster_objects.specs.declared.plans.Step.{Step}
 use Rattle.cluster_objects.specs.declared.plans.StepState.{StepState}
 use Rattle.cluster_objects.specs.declared.plans.StepState.TheVariants.{Unknown, Aimed, Created, Present, Overtaken}
@@ -41,6 +41,10 @@ early_of (Some object) plan is = by_status object.status is
     by_status (Csv x) is = absurd (cc)
     by_status (Deployment x) is = absurd (cc)
     by_status (Resolution x) is = absurd (cc)
+    by_status (Strategy x) is = absurd (cc)
+    by_status (Group x) is = absurd (cc)
+    by_status (Claims x) is = absurd (cc)
+    by_status (Lease x) is = absurd (cc)
 
 waits_is : (o : Option Object) → is_early_plan o ≡ true → (plan : PlanStatus) × (as_plan o ≡ Some plan) × (is_early plan.phase ≡ true)
 waits_is None is = absurd (cc)
@@ -54,6 +58,10 @@ waits_is (Some object) is = by_status object.status is
     by_status (Csv x) is = absurd (cc)
     by_status (Deployment x) is = absurd (cc)
     by_status (Resolution x) is = absurd (cc)
+    by_status (Strategy x) is = absurd (cc)
+    by_status (Group x) is = absurd (cc)
+    by_status (Claims x) is = absurd (cc)
+    by_status (Lease x) is = absurd (cc)
 
 not_and : (a b : Bool) → (not a && not b) ≡ false → (a ≡ true) ⊎ (b ≡ true)
 not_and true b is = inl refl

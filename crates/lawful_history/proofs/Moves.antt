@@ -17,7 +17,7 @@ use Rattle.cluster_objects.specs.declared.keys.Key.{Key}
 use Rattle.cluster_history.specs.declared.slots.Slot.{Slot}
 use Rattle.cluster_objects.specs.declared.objects.Object.{Object}
 use Rattle.cluster_objects.specs.declared.objects.Status.{Status}
-use Rattle.cluster_objects.specs.declared.objects.Status.TheVariants.{Plain, Catalog, Subscription, Csv, Deployment, Plan, Resolution}
+use Rattle.cluster_objects.specs.declared.objects.Status.TheVariants.{Plain, Catalog, Subscription, Csv, Deployment, Plan, Resolution, Strategy, Group, Claims, Lease}
 use Rattle.cluster_objects.specs.declared.plans.Step.{Step}
 use Rattle.cluster_objects.specs.declared.plans.StepState.{StepState}
 use Rattle.cluster_objects.specs.declared.plans.StepState.TheVariants.{Unknown, Aimed, Created, Present, Overtaken}
@@ -223,6 +223,10 @@ entry_is_plan view key there w is = by_object there.object refl is
     by_status object (Csv x) e st is = absurd is
     by_status object (Deployment x) e st is = absurd is
     by_status object (Resolution x) e st is = absurd is
+    by_status object (Strategy x) e st is = absurd is
+    by_status object (Group x) e st is = absurd is
+    by_status object (Claims x) e st is = absurd is
+    by_status object (Lease x) e st is = absurd is
 
     by_object : (o : Option Object) → there.object ≡ o → Among w (elim o [
       | None ↦ []

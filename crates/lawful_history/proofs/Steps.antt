@@ -19,7 +19,7 @@ use Rattle.cluster_objects.specs.declared.plans.StepState.TheVariants.{Unknown, 
 use Rattle.cluster_objects.specs.declared.plans.PlanPhase.TheVariants as phase
 use Rattle.cluster_objects.specs.declared.objects.Object.{Object}
 use Rattle.cluster_objects.specs.declared.objects.Status.{Status}
-use Rattle.cluster_objects.specs.declared.objects.Status.TheVariants.{Plain, Catalog, Subscription, Csv, Deployment, Plan, Resolution}
+use Rattle.cluster_objects.specs.declared.objects.Status.TheVariants.{Plain, Catalog, Subscription, Csv, Deployment, Plan, Resolution, Strategy, Group, Claims, Lease}
 use Rattle.cluster_objects.specs.declared.plans.PlanStatus.{PlanStatus}
 use Rattle.cluster_objects.specs.declared.objects.Write.{Write}
 use Rattle.lawful_history.proofs.Efforts.{effort}
@@ -83,6 +83,10 @@ installing-is (Some object) p is e = by_status object.status is
     by_status (Csv x) is = cc
     by_status (Deployment x) is = cc
     by_status (Resolution x) is = cc
+    by_status (Strategy x) is = cc
+    by_status (Group x) is = cc
+    by_status (Claims x) is = cc
+    by_status (Lease x) is = cc
 
 or_is : (o : Option PlanStatus) (r : Option PlanStatus) (p : PlanStatus) → option_or o r ≡ Some p → (o ≡ Some p) ⊎ (r ≡ Some p)
 or_is None r p is = inr is

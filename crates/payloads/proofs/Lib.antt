@@ -1,5 +1,6 @@
 pub mod Appending
 pub mod Combinators
+pub mod GroupForms
 pub mod ItemLoops
 pub mod KeyForms
 pub mod Leaves

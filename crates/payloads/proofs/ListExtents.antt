@@ -8,6 +8,7 @@ use Rattle.payloads.specs.Keys.{key_form, stamp_form, gvk_form}
 use Rattle.payloads.specs.Statuses.{crd_form}
 use Rattle.payloads.specs.Plans.{step_form}
 use Rattle.payloads.specs.Resolutions.{tip_form, seen_form, taken_form}
+use Rattle.payloads.specs.Groups.{claim_form}
 use Rattle.payloads.proofs.Leaves.{list_is_form}
 
 number_bytes : (n : ℕ) → length (number_form.spell n) ≡ 8
@@ -67,6 +68,10 @@ seen_has_bytes s = front_has_bytes (name_form.spell s.namespace) _ (name_has_byt
 pub taken_has_bytes : HasBytes taken_form
 unfolding taken_form
 taken_has_bytes t = front_has_bytes (name_form.spell t.catalog_namespace) _ (name_has_bytes t.catalog_namespace)
+
+pub claim_has_bytes : HasBytes claim_form
+unfolding claim_form
+claim_has_bytes c = front_has_bytes (gvk_form.spell c.kind) _ (gvk_has_bytes c.kind)
 
 pub named_has_bytes : {A : Type 0} (form : Form A) → HasBytes (name_form ⊗ form)
 named_has_bytes form x = front_has_bytes (name_form.spell x.0) (form.spell x.1) (name_has_bytes x.0)

@@ -13,6 +13,7 @@ use Rattle.payloads.proofs.KeyForms.{key_is_form, stamp_is_form}
 use Rattle.payloads.proofs.StatusForms.{catalog_is_form, subscription_is_form, csv_is_form, readiness_is_form}
 use Rattle.payloads.proofs.PlanForms.{plan_is_form}
 use Rattle.payloads.proofs.ResolutionForms.{resolution_is_form}
+use Rattle.payloads.proofs.GroupForms.{strategy_is_form, group_is_form, claims_is_form, lease_is_form}
 
 pub status_is_form : IsForm status_form
 unfolding status_form
@@ -30,7 +31,19 @@ status_is_form = record {
             holding_only fits_status spell_status 4 (λ r. status.Deployment r) readiness_is_form (λ r. refl) (λ r. refl),
             (
               holding_only fits_status spell_status 5 (λ s. status.Plan s) plan_is_form (λ s. refl) (λ s. refl),
-              (holding_only fits_status spell_status 6 (λ s. status.Resolution s) resolution_is_form (λ s. refl) (λ s. refl), tt),
+              (
+                holding_only fits_status spell_status 6 (λ s. status.Resolution s) resolution_is_form (λ s. refl) (λ s. refl),
+                (
+                  holding_only fits_status spell_status 7 (λ s. status.Strategy s) strategy_is_form (λ s. refl) (λ s. refl),
+                  (
+                    holding_only fits_status spell_status 8 (λ s. status.Group s) group_is_form (λ s. refl) (λ s. refl),
+                    (
+                      holding_only fits_status spell_status 9 (λ s. status.Claims s) claims_is_form (λ s. refl) (λ s. refl),
+                      (holding_only fits_status spell_status 10 (λ s. status.Lease s) lease_is_form (λ s. refl) (λ s. refl), tt),
+                    ),
+                  ),
+                ),
+              ),
             ),
           ),
         ),
@@ -47,6 +60,10 @@ status_is_form = record {
     again (status.Deployment r) rest fits = holding_again (λ y. status.Deployment y) readiness_is_form r rest fits
     again (status.Plan s) rest fits = holding_again (λ y. status.Plan y) plan_is_form s rest fits
     again (status.Resolution s) rest fits = holding_again (λ y. status.Resolution y) resolution_is_form s rest fits
+    again (status.Strategy s) rest fits = holding_again (λ y. status.Strategy y) strategy_is_form s rest fits
+    again (status.Group s) rest fits = holding_again (λ y. status.Group y) group_is_form s rest fits
+    again (status.Claims s) rest fits = holding_again (λ y. status.Claims y) claims_is_form s rest fits
+    again (status.Lease s) rest fits = holding_again (λ y. status.Lease y) lease_is_form s rest fits
 
 pub object_is_form : IsForm object_form
 unfolding object_form

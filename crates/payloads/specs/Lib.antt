@@ -1,5 +1,6 @@
 pub mod Extents
 pub mod Form
+pub mod Groups
 pub mod Keys
 pub mod Laws
 pub mod Objects

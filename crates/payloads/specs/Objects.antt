@@ -5,6 +5,7 @@ use Rattle.payloads.specs.Keys.{key_form, stamp_form}
 use Rattle.payloads.specs.Statuses.{catalog_form, subscription_form, csv_form, readiness_form}
 use Rattle.payloads.specs.Plans.{plan_form}
 use Rattle.payloads.specs.Resolutions.{resolution_form}
+use Rattle.payloads.specs.Groups.{strategy_form, group_form, claims_form, lease_form}
 use Rattle.cluster_objects.specs.declared.objects.Status.{Status}
 use Rattle.cluster_objects.specs.declared.objects.Status.TheVariants as status
 use Rattle.cluster_objects.specs.declared.objects.Object.{Object}
@@ -20,6 +21,10 @@ spell_status (status.Csv s) = 3 ∷ csv_form.spell s
 spell_status (status.Deployment r) = 4 ∷ readiness_form.spell r
 spell_status (status.Plan s) = 5 ∷ plan_form.spell s
 spell_status (status.Resolution s) = 6 ∷ resolution_form.spell s
+spell_status (status.Strategy s) = 7 ∷ strategy_form.spell s
+spell_status (status.Group s) = 8 ∷ group_form.spell s
+spell_status (status.Claims s) = 9 ∷ claims_form.spell s
+spell_status (status.Lease s) = 10 ∷ lease_form.spell s
 
 abbrev pub fits_status : Status → Bool
 fits_status status.Plain = true
@@ -29,6 +34,10 @@ fits_status (status.Csv s) = csv_form.fits s
 fits_status (status.Deployment r) = readiness_form.fits r
 fits_status (status.Plan s) = plan_form.fits s
 fits_status (status.Resolution s) = resolution_form.fits s
+fits_status (status.Strategy s) = strategy_form.fits s
+fits_status (status.Group s) = group_form.fits s
+fits_status (status.Claims s) = claims_form.fits s
+fits_status (status.Lease s) = lease_form.fits s
 
 abbrev pub status_readings : List (List ℕ → Option (Status × List ℕ))
 status_readings =
@@ -39,6 +48,10 @@ status_readings =
     ∷ holding readiness_form (λ r. status.Deployment r)
     ∷ holding plan_form (λ s. status.Plan s)
     ∷ holding resolution_form (λ s. status.Resolution s)
+    ∷ holding strategy_form (λ s. status.Strategy s)
+    ∷ holding group_form (λ s. status.Group s)
+    ∷ holding claims_form (λ s. status.Claims s)
+    ∷ holding lease_form (λ s. status.Lease s)
     ∷ []
 
 unfoldable pub status_form : Form Status

@@ -7,6 +7,7 @@ ghost use Rattle.payloads.specs.Keys.{key_form, stamp_form, gvk_form};
 ghost use Rattle.payloads.specs.Statuses.{sub_spec_form, crd_form};
 ghost use Rattle.payloads.specs.Plans.{step_form};
 ghost use Rattle.payloads.specs.Resolutions.{tip_form, seen_form, taken_form};
+ghost use Rattle.payloads.specs.Groups.{claim_form};
 ghost use Rattle.payloads.specs.Objects.{status_form, object_form, write_form};
 ghost use Rattle.payloads.specs.Slots.{slot_form, base_form};
 ghost use Rattle.cluster_objects.specs.declared.objects.Write.{Write};
@@ -45,7 +46,7 @@ pub fn payloads_have_one_spelling()
 /// list that is read has more items than there are bytes, whatever its count says.
 pub fn lists_end_by_the_bytes()
     ensures owned_and_needed { EndsByBytes crd_form }
-    ensures deployments { EndsByBytes name_form }
+    ensures deployments_and_targets { EndsByBytes name_form }
     ensures steps { EndsByBytes step_form }
     ensures subscriptions { EndsByBytes (name_form ⊗ sub_spec_form) }
     ensures tips { EndsByBytes tip_form }
@@ -54,5 +55,6 @@ pub fn lists_end_by_the_bytes()
     ensures walk { EndsByBytes short_form }
     ensures taken { EndsByBytes taken_form }
     ensures stamps { EndsByBytes stamp_form }
+    ensures claims { EndsByBytes claim_form }
     ensures slots { EndsByBytes (key_form ⊗ slot_form) }
 {}

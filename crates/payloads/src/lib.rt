@@ -10,6 +10,7 @@
 #![tactic(auto)]
 
 mod basic;
+mod groups;
 mod joined;
 mod keys;
 mod laws;

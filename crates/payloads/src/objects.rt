@@ -4,8 +4,8 @@ ghost use Rattle.payloads.specs.Objects.{status_form, object_form, writer_form, 
 use crate::basic::read_plain_at;
 use crate::stored::{ReadFault, Stored};
 use cluster_objects::{
-    CatalogStatus, CsvStatus, Key, Object, PlanStatus, Readiness, ResolutionStatus, Stamp, Status,
-    SubscriptionStatus, Write, Writer,
+    CatalogStatus, ClaimsStatus, CsvStatus, GroupStatus, Key, LeaseStatus, Object, PlanStatus,
+    Readiness, ResolutionStatus, Stamp, Status, StrategyStatus, SubscriptionStatus, Write, Writer,
 };
 use olm_base::{Bytes, Memory, Name};
 use std::alloc::Global;
@@ -44,6 +44,22 @@ impl Stored for Status {
                 out.push(6)?;
                 status.write_to(out)
             }
+            Status::Strategy(status) => {
+                out.push(7)?;
+                status.write_to(out)
+            }
+            Status::Group(status) => {
+                out.push(8)?;
+                status.write_to(out)
+            }
+            Status::Claims(status) => {
+                out.push(9)?;
+                status.write_to(out)
+            }
+            Status::Lease(status) => {
+                out.push(10)?;
+                status.write_to(out)
+            }
         }
     }
 
@@ -74,6 +90,22 @@ impl Stored for Status {
             [6, rest @ ..] => {
                 let (status, rest) = ResolutionStatus::read_from(alloc, rest)?;
                 Ok((Status::Resolution(status), rest))
+            }
+            [7, rest @ ..] => {
+                let (status, rest) = StrategyStatus::read_from(alloc, rest)?;
+                Ok((Status::Strategy(status), rest))
+            }
+            [8, rest @ ..] => {
+                let (status, rest) = GroupStatus::read_from(alloc, rest)?;
+                Ok((Status::Group(status), rest))
+            }
+            [9, rest @ ..] => {
+                let (status, rest) = ClaimsStatus::read_from(alloc, rest)?;
+                Ok((Status::Claims(status), rest))
+            }
+            [10, rest @ ..] => {
+                let (status, rest) = LeaseStatus::read_from(alloc, rest)?;
+                Ok((Status::Lease(status), rest))
             }
             _ => Err(ReadFault::NoSpelling),
         }

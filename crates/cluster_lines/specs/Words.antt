@@ -57,3 +57,7 @@ status_word (status.Csv csv) = csv_word csv.phase
 status_word (status.Deployment readiness) = readiness_word readiness
 status_word (status.Plan plan) = plan_word plan.phase
 status_word (status.Resolution resolution) = outcome_word resolution.outcome
+status_word (status.Strategy strategy) = codes "Strategy"
+status_word (status.Group group) = codes "Group"
+status_word (status.Claims claims) = codes "Claims"
+status_word (status.Lease lease) = codes "Lease"

@@ -78,5 +78,9 @@ pub fn status_word(status: &Status) -> &'static [u8]
         Status::Deployment(readiness) => readiness_word(*readiness),
         Status::Plan(plan) => plan_word(plan.phase),
         Status::Resolution(resolution) => outcome_word(&resolution.outcome),
+        Status::Strategy(_) => b"Strategy",
+        Status::Group(_) => b"Group",
+        Status::Claims(_) => b"Claims",
+        Status::Lease(_) => b"Lease",
     }
 }

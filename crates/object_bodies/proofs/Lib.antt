@@ -2,3 +2,4 @@ pub mod Ascii
 pub mod Reading
 pub mod Made
 pub mod Whole
+pub mod Once

@@ -1,6 +1,6 @@
 -- What a whole body that is read has given.
-use Rattle.std.proofs.Common.{◌≡◌, ℕ, ◌==◌, List, [], ◌∷◌, Bool, true, false, cond, length, nat_le, Option, Some, None, Result, Ok, Err, if◌then◌else◌, refl, ap, ◌∙◌, subst, codes}
-use Rattle.std.proofs.lemmas.Bool.{and_parts}
+use Rattle.std.proofs.Common.{◌≡◌, ℕ, ◌==◌, List, [], ◌∷◌, Bool, true, false, cond, length, nat_le, Option, Some, None, Result, Ok, Err, if◌then◌else◌, MatchBool, refl, sym, ap, ◌∙◌, subst, codes}
+use Rattle.std.proofs.lemmas.Bool.{and_parts, or_parts, or_right, or_from}
 use Rattle.serde_json.specs.Data.{Data, null, boolean, number, string, array, object}
 use Rattle.serde_json.specs.Find.{get_member}
 use Rattle.olm_base.specs.Names.{is_name, is_outside_name}
@@ -10,20 +10,20 @@ use Rattle.olm_base.specs.declared.fields.FieldKind.TheVariants.{BadName}
 use Rattle.json_fields.specs.declared.fault.Fault.{Fault}
 use Rattle.json_fields.specs.Faults.{and_then, here, key_step}
 use Rattle.json_fields.specs.Values.{as_fields, as_opt_name, opt_name_of, some_name, opt_name_at}
-use Rattle.cluster_objects.specs.Kinds.{status_of}
+use Rattle.cluster_objects.specs.Kinds.{is_strategy_key, is_group_key, status_of}
 use Rattle.cluster_objects.specs.declared.keys.Key.{Key}
 use Rattle.cluster_objects.specs.declared.objects.Status.{Status}
 use Rattle.cluster_objects.specs.declared.statuses.Made.{Made}
 use Rattle.object_bodies.specs.declared.faults.ObjectFault.{ObjectFault}
 use Rattle.object_bodies.specs.declared.faults.ObjectFault.TheVariants.{Forbidden}
 use Rattle.object_bodies.specs.Faults.{told, bad_field}
-use Rattle.object_bodies.specs.Heads.{is_forbidden, allowed, allowed_key, bare_key, is_global, own_namespace, namespace_at, plan_namespace, placed, or_default}
+use Rattle.object_bodies.specs.Heads.{is_forbidden, is_forbidden_in_plans, is_setting, allowed_unless, user_key, manifest_key, bare_key, is_clusterwide, own_namespace, namespace_at, plan_namespace, placed, or_default}
 use Rattle.object_bodies.specs.Fields.{fields_at}
-use Rattle.object_bodies.specs.Statuses.{made_of}
+use Rattle.object_bodies.specs.Statuses.{made_of, new_status}
 use Rattle.object_bodies.specs.Bodies.{value_of, user_parts, user_value, user_object, plan_parts, plan_value, plan_object}
-use Rattle.object_bodies.specs.Laws.{IsNewAt, may_stand_in, AreNew, AreNamed, AreCarried, AreMadeNew}
+use Rattle.object_bodies.specs.Laws.{IsNewAt, may_stand_in, AreNew, AreNamed, IsCarried, AreCarried, AreMadeNew}
 use Rattle.object_bodies.proofs.Reading.{same_ok, read_then, read_told, read_below, read_here}
-use Rattle.object_bodies.proofs.Made.{made_is_new}
+use Rattle.object_bodies.proofs.Made.{made_is_new, status_is_new, new_as_made}
 
 abbrev pub allowed_if : Bool → Key → Result Key ObjectFault
 allowed_if b key = if b then Err (Forbidden key.kind) else Ok key
@@ -32,71 +32,108 @@ allowed_by : (b : Bool) (key found : Key) → allowed_if b key ≡ Ok found → 
 allowed_by true key found e = cc e
 allowed_by false key found e = (refl, same_ok key found e)
 
-not_forbidden : (value : Data) (key : Key) → allowed_key value ≡ Ok key → is_forbidden key ≡ false
-not_forbidden value key e =
-    let bare = read_then (bare_key value) allowed key e in
-    let passed = allowed_by (is_forbidden bare.0) bare.0 key bare.2 in
-    subst (λ key. is_forbidden key ≡ false) passed.1 passed.0
+-- a key that was read, and is of none of these kinds
+abbrev pub IsAllowed : (Key → Bool) → Data → Key → Type 0
+IsAllowed forbidden value key = (bare_key value ≡ Ok key) × (forbidden key ≡ false)
+
+key_allowed : (forbidden : Key → Bool) (value : Data) (key : Key) → and_then (bare_key value) (allowed_unless forbidden) ≡ Ok key → IsAllowed forbidden value key
+key_allowed forbidden value key e =
+    let bare = read_then (bare_key value) (allowed_unless forbidden) key e in
+    let passed = allowed_by (forbidden bare.0) bare.0 key bare.2 in
+    subst (IsAllowed forbidden value) passed.1 (bare.1, passed.0)
 
 -- the parts of a user's body
 pub record UserParts (body : List ℕ) (found : Key × Status) : Type 0 where
   pub value : Data
   pub key : Key
   pub namespace : List ℕ
-  pub made : Made
+  pub status : Status
   pub value_is : value_of body ≡ Ok value
-  pub key_is : allowed_key value ≡ Ok key
+  pub key_is : user_key value ≡ Ok key
   pub namespace_is : namespace_at key.kind value ≡ Ok namespace
-  pub made_is : made_of key value ≡ Ok made
-  pub found_is : (placed key namespace, status_of made) ≡ found
+  pub status_is : new_status key value ≡ Ok status
+  pub found_is : (placed key namespace, status) ≡ found
 
 pub user_parts_of : (body : List ℕ) (found : Key × Status) → user_object body ≡ Ok found → UserParts body found
 user_parts_of body found e =
     let value = read_then (value_of body) user_value found e in
-    let key = read_then (allowed_key value.0) (λ key. told bad_field (user_parts key value.0)) found value.2 in
+    let key = read_then (user_key value.0) (λ key. told bad_field (user_parts key value.0)) found value.2 in
     let parts = read_told bad_field (user_parts key.0 value.0) found key.2 in
     let namespace = read_then (namespace_at key.0.kind value.0) _ found parts in
-    let made = read_then (made_of key.0 value.0) _ found namespace.2 in
+    let status = read_then (new_status key.0 value.0) _ found namespace.2 in
     record {
       value = value.0;
       key = key.0;
       namespace = namespace.0;
-      made = made.0;
+      status = status.0;
       value_is = value.1;
       key_is = key.1;
       namespace_is = namespace.1;
-      made_is = made.1;
-      found_is = same_ok _ found made.2;
+      status_is = status.1;
+      found_is = same_ok _ found status.2;
     }
 
 pub objects_are_new : (body : List ℕ) → AreNew body
 objects_are_new body found e =
     let parts = user_parts_of body found e in
     let Wanted : Key × Status → Type 0 = λ found. (is_forbidden found.0 ≡ false) × IsNewAt found.0 found.1 in
-    subst Wanted parts.found_is (not_forbidden parts.value parts.key parts.key_is, made_is_new (placed parts.key parts.namespace) parts.value parts.made parts.made_is)
+    subst Wanted parts.found_is
+    ((key_allowed is_forbidden parts.value parts.key parts.key_is).1, status_is_new (placed parts.key parts.namespace) parts.value parts.status parts.status_is)
+
+-- a key that a plan may make an object at sets nothing for a whole namespace
+no_setting : (key : Key) → is_forbidden_in_plans key ≡ false → (is_strategy_key key ≡ false) × (is_group_key key ≡ false)
+no_setting key e = or_parts (is_strategy_key key) (is_group_key key) (or_parts (is_forbidden key) (is_setting key) e).1
 
 pub makes_are_new : (namespace body : List ℕ) → AreMadeNew namespace body
 makes_are_new namespace body found e =
     let value = read_then (value_of body) (plan_value namespace) found e in
-    let key = read_then (allowed_key value.0) (λ key. told bad_field (plan_parts namespace key value.0)) found value.2 in
+    let key = read_then (manifest_key value.0) (λ key. told bad_field (plan_parts namespace key value.0)) found value.2 in
     let parts = read_told bad_field (plan_parts namespace key.0 value.0) found key.2 in
     let made = read_then (made_of key.0 value.0) _ found parts in
-    let Wanted : Key × Made → Type 0 = λ found. (is_forbidden found.0 ≡ false) × IsNewAt found.0 (status_of found.1) in
+    let free = (key_allowed is_forbidden_in_plans value.0 key.0 key.1).1 in
+    let (no_strategy, no_group) = no_setting key.0 free in
+    let Wanted : Key × Made → Type 0 = λ found. (is_forbidden_in_plans found.0 ≡ false) × IsNewAt found.0 (status_of found.1) in
     subst Wanted (same_ok _ found made.2)
-    (not_forbidden value.0 key.0 key.1, made_is_new (placed key.0 (plan_namespace key.0.kind namespace)) value.0 made.0 made.1)
+    (free, made_is_new (placed key.0 (plan_namespace key.0.kind namespace)) value.0 made.0 no_strategy no_group made.1)
+
+-- ---- what a plan carries of a user's body
+
+-- what a plan reads, by the value and by the key
+plan_reads : (namespace body : List ℕ) (value : Data) (read : Result Key ObjectFault) → value_of body ≡ Ok value → manifest_key value ≡ read
+    → plan_object namespace body ≡ and_then read (λ key. told bad_field (plan_parts namespace key value))
+plan_reads namespace body value read value_is key_is =
+    ap (λ read. and_then read (plan_value namespace)) value_is ∙ ap (λ read. and_then read (λ key. told bad_field (plan_parts namespace key value))) key_is
+
+-- its key, where a user's is this one
+manifest_key_if : (value : Data) (key : Key) (b : Bool) → bare_key value ≡ Ok key → is_forbidden_in_plans key ≡ b → manifest_key value ≡ allowed_if b key
+manifest_key_if value key b bare forbidden =
+    ap (λ read. and_then read (allowed_unless is_forbidden_in_plans)) bare ∙ ap (λ b. allowed_if b key) forbidden
+
+abbrev pub Carried : List ℕ → List ℕ → Bool → Key × Status → Type 0
+Carried namespace body b found = MatchBool b (plan_object namespace body ≡ Err (Forbidden found.0.kind)) (IsCarried namespace body found)
+
+carried_if : (namespace body : List ℕ) (found : Key × Status) (parts : UserParts body found) (b : Bool) → is_setting parts.key ≡ b
+    → Carried namespace body b (placed parts.key parts.namespace, parts.status)
+carried_if namespace body found parts true setting =
+    let (bare, free) = key_allowed is_forbidden parts.value parts.key parts.key_is in
+    let stopped = or_right (is_forbidden parts.key) (is_setting parts.key) setting in
+    plan_reads namespace body parts.value (allowed_if true parts.key) parts.value_is (manifest_key_if parts.value parts.key true bare stopped)
+carried_if namespace body found parts false setting =
+    let value = parts.value in
+    let key = parts.key in
+    let (bare, free) = key_allowed is_forbidden value key parts.key_is in
+    let (no_strategy, no_group) = or_parts (is_strategy_key key) (is_group_key key) setting in
+    let may = or_from (is_forbidden key) (is_setting key) free setting in
+    let made = read_then (made_of key value) (λ made. Ok (status_of made)) parts.status (sym (new_as_made key value no_strategy no_group) ∙ parts.status_is) in
+    let gives : plan_object namespace body ≡ Ok (placed key (plan_namespace key.kind namespace), made.0) =
+    plan_reads namespace body value (allowed_if false key) parts.value_is (manifest_key_if value key false bare may)
+    ∙ ap (λ read. told bad_field (and_then read (λ made. Ok (placed key (plan_namespace key.kind namespace), made)))) made.1 in
+    (made.0, gives, same_ok (status_of made.0) parts.status made.2)
 
 pub objects_are_carried : (namespace body : List ℕ) → AreCarried namespace body
 objects_are_carried namespace body found e =
     let parts = user_parts_of body found e in
-    let value = parts.value in
-    let key = parts.key in
-    let Wanted : Key × Status → Type 0 = λ found.
-    (made : Made) × (plan_object namespace body ≡ Ok (placed found.0 (plan_namespace found.0.kind namespace), made)) × (status_of made ≡ found.1) in
-    let gives : plan_object namespace body ≡ Ok (placed key (plan_namespace key.kind namespace), parts.made) =
-    ap (λ read. and_then read (plan_value namespace)) parts.value_is
-    ∙ ap (λ read. and_then read (λ key. told bad_field (plan_parts namespace key value))) parts.key_is
-    ∙ ap (λ read. told bad_field (and_then read (λ made. Ok (placed key (plan_namespace key.kind namespace), made)))) parts.made_is in
-    subst Wanted parts.found_is (parts.made, gives, refl)
+    subst (λ found. Carried namespace body (is_setting found.0) found) parts.found_is (carried_if namespace body found parts (is_setting parts.key) refl)
 
 -- ---- namespaces
 
@@ -159,4 +196,4 @@ pub objects_are_named : (body : List ℕ) → AreNamed body
 objects_are_named body found e =
     let parts = user_parts_of body found e in
     let Wanted : Key × Status → Type 0 = λ found. may_stand_in found.0.kind found.0.namespace ≡ true in
-    subst Wanted parts.found_is (namespace_by (is_global parts.key.kind) parts.value parts.namespace parts.namespace_is)
+    subst Wanted parts.found_is (namespace_by (is_clusterwide parts.key.kind) parts.value parts.namespace parts.namespace_is)

@@ -47,6 +47,27 @@ approval_of (Some word) =
 abbrev pub as_approval : Option Data → Result Bool FieldKind
 as_approval found = and_then (as_opt_text found) approval_of
 
+-- whether upgrades may leave a version that failed: one of two words, and not where there is none
+abbrev pub forward_of : Option (List ℕ) → Result Bool FieldKind
+forward_of None = Ok false
+forward_of (Some word) =
+    if same_text word (codes "TechPreviewUnsafeFailForward") then Ok true
+    else if same_text word (codes "Default") then Ok false
+    else Err WrongType
+
+abbrev pub as_forward : Option Data → Result Bool FieldKind
+as_forward found = and_then (as_opt_text found) forward_of
+
+-- what must not be there
+abbrev pub as_absent : Option Data → Result (Unit {0}) FieldKind
+as_absent None = Ok tt
+as_absent (Some null) = Ok tt
+as_absent (Some (boolean b)) = Err WrongType
+as_absent (Some (number n)) = Err WrongType
+as_absent (Some (string s)) = Err WrongType
+as_absent (Some (array ds)) = Err WrongType
+as_absent (Some (object ms)) = Err WrongType
+
 -- where no version is given
 abbrev pub no_version : List ℕ
 no_version = codes "0.0.0"

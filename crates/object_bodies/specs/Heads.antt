@@ -7,7 +7,7 @@ use Rattle.json_fields.specs.declared.fault.Fault.{Fault}
 use Rattle.json_fields.specs.Faults.{and_then}
 use Rattle.json_fields.specs.Values.{name_at, opt_name_at, text_at}
 use Rattle.cluster_objects.specs.Keys.{same_text}
-use Rattle.cluster_objects.specs.Kinds.{is_plan_key, is_catalog_key, is_resolution_key}
+use Rattle.cluster_objects.specs.Kinds.{is_plan_key, is_catalog_key, is_resolution_key, is_claims_key, is_lease_key, is_strategy_key, is_group_key}
 use Rattle.cluster_objects.specs.declared.keys.Key.{Key}
 use Rattle.object_bodies.specs.declared.faults.ObjectFault.{ObjectFault}
 use Rattle.object_bodies.specs.declared.faults.ObjectFault.TheVariants.{NoKind, Forbidden}
@@ -53,21 +53,34 @@ bare_key value =
     and_then (own_name value) (λ name.
     Ok (record { group = group; kind = kind; namespace = []; name = name }))))
 
--- the kinds that the controller alone writes, and that of catalogs, which a command of its own brings
+-- the kinds that no body makes: those that are written by the controller or by an event of their own
 abbrev pub is_forbidden : Key → Bool
-is_forbidden key = is_plan_key key || is_catalog_key key || is_resolution_key key
+is_forbidden key = is_plan_key key || is_catalog_key key || is_resolution_key key || is_claims_key key || is_lease_key key
 
-abbrev pub allowed : Key → Result Key ObjectFault
-allowed key = if is_forbidden key then Err (Forbidden key.kind) else Ok key
+-- the kinds that set something for a whole namespace
+abbrev pub is_setting : Key → Bool
+is_setting key = is_strategy_key key || is_group_key key
 
-abbrev pub allowed_key : Data → Result Key ObjectFault
-allowed_key value = and_then (bare_key value) allowed
+-- a user alone makes those
+abbrev pub is_forbidden_in_plans : Key → Bool
+is_forbidden_in_plans key = is_forbidden key || is_setting key
+
+abbrev pub allowed_unless : (Key → Bool) → Key → Result Key ObjectFault
+allowed_unless forbidden key = if forbidden key then Err (Forbidden key.kind) else Ok key
+
+-- the key of a user's body
+abbrev pub user_key : Data → Result Key ObjectFault
+user_key value = and_then (bare_key value) (allowed_unless is_forbidden)
+
+-- the key of a manifest
+abbrev pub manifest_key : Data → Result Key ObjectFault
+manifest_key value = and_then (bare_key value) (allowed_unless is_forbidden_in_plans)
 
 -- ---- the namespace
 
 -- Objects of these kinds stand in no namespace, whatever their group.
-abbrev pub is_global : List ℕ → Bool
-is_global kind =
+abbrev pub is_clusterwide : List ℕ → Bool
+is_clusterwide kind =
     same_text kind (codes "CustomResourceDefinition") || same_text kind (codes "ClusterRole")
     || same_text kind (codes "ClusterRoleBinding") || same_text kind (codes "PriorityClass")
 
@@ -80,11 +93,11 @@ own_namespace metadata = and_then (opt_name_at (codes "namespace") metadata) (λ
 
 -- the namespace that the body of an object of this kind gives
 abbrev pub namespace_at : List ℕ → Data → Result (List ℕ) Fault
-namespace_at kind value = if is_global kind then Ok [] else fields_at own_namespace (codes "metadata") value
+namespace_at kind value = if is_clusterwide kind then Ok [] else fields_at own_namespace (codes "metadata") value
 
 -- the namespace of an object of this kind, where a plan's is this one
 abbrev pub plan_namespace : List ℕ → List ℕ → List ℕ
-plan_namespace kind namespace = if is_global kind then [] else namespace
+plan_namespace kind namespace = if is_clusterwide kind then [] else namespace
 
 abbrev pub placed : Key → List ℕ → Key
 placed key namespace = record key { namespace = namespace }

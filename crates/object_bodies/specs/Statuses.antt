@@ -1,11 +1,17 @@
 -- What a body says of its object's status, by the kind. The first field that is at fault counts.
-use Rattle.std.specs.Prelude.{ℕ, if◌then◌else◌, List, Option, None, Result, Ok, codes}
+use Rattle.std.specs.Prelude.{ℕ, not, if◌then◌else◌, List, [], ◌∷◌, Option, Some, None, Result, Ok, codes}
+use Rattle.std.specs.List.{filter}
 use Rattle.serde_json.specs.Data.{Data}
 use Rattle.json_fields.specs.declared.fault.Fault.{Fault}
 use Rattle.json_fields.specs.Faults.{and_then}
-use Rattle.json_fields.specs.Values.{at, fields_of, name_at, opt_name_at, opt_list_at}
-use Rattle.cluster_objects.specs.Kinds.{is_subscription_key, is_csv_key, is_deployment_key}
+use Rattle.json_fields.specs.Values.{at, fields_of, name_at, name_item, opt_name_at, opt_list_at}
+use Rattle.cluster_objects.specs.Keys.{same_text}
+use Rattle.cluster_objects.specs.Kinds.{is_subscription_key, is_csv_key, is_deployment_key, is_strategy_key, is_group_key, status_of}
+use Rattle.cluster_objects.specs.declared.groups.GroupStatus.{GroupStatus}
+use Rattle.cluster_objects.specs.declared.groups.StrategyStatus.{StrategyStatus}
 use Rattle.cluster_objects.specs.declared.keys.Key.{Key}
+use Rattle.cluster_objects.specs.declared.objects.Status.{Status}
+use Rattle.cluster_objects.specs.declared.objects.Status.TheVariants as status
 use Rattle.cluster_objects.specs.declared.statuses.Crd.{Crd}
 use Rattle.cluster_objects.specs.declared.statuses.CsvPhase.TheVariants as phase
 use Rattle.cluster_objects.specs.declared.statuses.CsvStatus.{CsvStatus}
@@ -16,7 +22,7 @@ use Rattle.cluster_objects.specs.declared.statuses.SubSpec.{SubSpec}
 use Rattle.cluster_objects.specs.declared.statuses.SubState.TheVariants as state
 use Rattle.cluster_objects.specs.declared.statuses.SubscriptionStatus.{SubscriptionStatus}
 use Rattle.object_bodies.specs.declared.csvs.CrdLists.{CrdLists}
-use Rattle.object_bodies.specs.Fields.{fields_at, opt_fields_at, as_approval, version_at}
+use Rattle.object_bodies.specs.Fields.{fields_at, opt_fields_at, as_approval, as_forward, as_absent, version_at}
 
 -- ---- subscriptions
 
@@ -55,7 +61,7 @@ deployment_name value = and_then (fields_of value) (λ value. name_at (codes "na
 
 -- the deployments of `install`
 abbrev pub deployment_names : Data → Result (List (List ℕ)) Fault
-deployment_names strategy = opt_list_at deployment_name (codes "deployments") strategy
+deployment_names spec = opt_list_at deployment_name (codes "deployments") spec
 
 abbrev pub install_names : Data → Result (List (List ℕ)) Fault
 install_names install = opt_fields_at deployment_names (codes "spec") install
@@ -89,7 +95,45 @@ subscription_made value = and_then (subscription value) (λ found. Ok (made.Subs
 abbrev pub csv_made : Data → Result Made Fault
 csv_made value = and_then (csv value) (λ found. Ok (made.Csv found))
 
+-- ---- upgrade strategies
+
+abbrev pub strategy_spec : Data → Result StrategyStatus Fault
+strategy_spec spec = and_then (at as_forward (codes "upgradeStrategy") spec) (λ forward. Ok (record { forward = forward }))
+
+abbrev pub strategy : Data → Result StrategyStatus Fault
+strategy value = opt_fields_at strategy_spec (codes "spec") value
+
+-- ---- operator groups
+
+-- each name once, where it is first
+abbrev pub each_once : List (List ℕ) → List (List ℕ)
+each_once [] = []
+each_once (name ∷ names) = name ∷ filter (λ other. not (same_text other name)) (each_once names)
+
+-- a list without names means all namespaces
+abbrev pub targets_of : List (List ℕ) → Option (List (List ℕ))
+targets_of [] = None
+targets_of (name ∷ names) = Some (each_once (name ∷ names))
+
+-- Namespaces are not selected by their labels.
+abbrev pub group_spec : Data → Result GroupStatus Fault
+group_spec spec =
+    and_then (opt_list_at name_item (codes "targetNamespaces") spec) (λ names.
+    and_then (at as_absent (codes "selector") spec) (λ nothing.
+    Ok (record { targets = targets_of names })))
+
+abbrev pub group : Data → Result GroupStatus Fault
+group value = opt_fields_at group_spec (codes "spec") value
+
+abbrev pub new_strategy : Data → Result Status Fault
+new_strategy value = and_then (strategy value) (λ found. Ok (status.Strategy found))
+
+abbrev pub new_group : Data → Result Status Fault
+new_group value = and_then (group value) (λ found. Ok (status.Group found))
+
 -- ---- by the key's group and kind; any other object is plain
+
+-- what a step of a plan makes
 
 abbrev pub made_of : Key → Data → Result Made Fault
 made_of key value =
@@ -97,3 +141,13 @@ made_of key value =
     else if is_csv_key key then csv_made value
     else if is_deployment_key key then Ok (made.Deployment Waiting)
     else Ok made.Plain
+
+abbrev pub new_made : Key → Data → Result Status Fault
+new_made key value = and_then (made_of key value) (λ made. Ok (status_of made))
+
+-- what a user's body makes: that, and what is set for a whole namespace
+abbrev pub new_status : Key → Data → Result Status Fault
+new_status key value =
+    if is_strategy_key key then new_strategy value
+    else if is_group_key key then new_group value
+    else new_made key value

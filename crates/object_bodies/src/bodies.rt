@@ -9,8 +9,8 @@ ghost use Rattle.object_bodies.specs.Faults.{is_free};
 ghost use Rattle.object_bodies.specs.Bodies as spec;
 
 use crate::faults::{ObjectFault, bad_field};
-use crate::heads::{allowed_key, namespace_at, placed, plan_namespace};
-use crate::statuses::{made_of, made_status};
+use crate::heads::{manifest_key, namespace_at, placed, plan_namespace, user_key};
+use crate::statuses::{made_of, new_status};
 use cluster_objects::{Key, Made, Status};
 use json_fields::Fault;
 use olm_base::{FieldKind, Memory, Name};
@@ -61,14 +61,14 @@ fn user_parts(alloc: Global, key: Key, value: &Value) -> Result<(Key, Status), F
     ensures { Gives free_fault (spec.user_parts key (view value.now)) result }
 {
     let namespace = namespace_at(alloc, &key.kind, value)?;
-    let made = made_of(alloc, &key, value)?;
-    Ok((placed(key, namespace), made_status(made)))
+    let status = new_status(alloc, &key, value)?;
+    Ok((placed(key, namespace), status))
 }
 
 fn user_value(alloc: Global, value: &Value) -> Result<(Key, Status), ObjectFault>
     ensures { Gives is_free (spec.user_value (view value.now)) result }
 {
-    let key = allowed_key(alloc, value)?;
+    let key = user_key(alloc, value)?;
     match user_parts(alloc, key, value) {
         Ok(found) => Ok(found),
         Err(fault) => Err(bad_field(fault)),
@@ -79,8 +79,8 @@ fn user_value(alloc: Global, value: &Value) -> Result<(Key, Status), ObjectFault
 ///
 /// Kinds that stand in a namespace take that of `metadata.namespace`, and `default` where there is none. The status
 /// is that of an object which nobody has looked after yet: a subscription without a state, a CSV without a phase
-/// and a package, a deployment that waits. A body that a plan may not carry is refused here too: install plans,
-/// resolutions and catalogs. The fault is the first one in the order of [`ObjectFault`], and of bad fields the first
+/// and a package, a deployment that waits. Install plans, resolutions, catalogs, claims and leases are refused: the
+/// controller writes them, or an event of their own. The fault is the first one in the order of [`ObjectFault`], and of bad fields the first
 /// one in the order of the table in docs/objects.md. Takes memory in the measure of the body.
 pub fn read_object(alloc: Global, body: &[u8]) -> Result<(Key, Status), ObjectFault>
     ensures { Gives is_free (spec.user_object body.now) result }
@@ -109,7 +109,7 @@ fn plan_parts(
 fn plan_value(alloc: Global, value: &Value, namespace: &Name) -> Result<(Key, Made), ObjectFault>
     ensures { Gives is_free (spec.plan_value namespace.now (view value.now)) result }
 {
-    let key = allowed_key(alloc, value)?;
+    let key = manifest_key(alloc, value)?;
     match plan_parts(alloc, key, value, namespace) {
         Ok(found) => Ok(found),
         Err(fault) => Err(bad_field(fault)),
@@ -119,7 +119,8 @@ fn plan_value(alloc: Global, value: &Value, namespace: &Name) -> Result<(Key, Ma
 /// The key and the status of the object that a step of a plan with this body makes.
 ///
 /// It is read as a user's body is, but that kinds which stand in a namespace take that of the plan, and what
-/// `metadata.namespace` holds is passed over.
+/// `metadata.namespace` holds is passed over. What sets something for a whole namespace is refused too: upgrade
+/// strategies and operator groups.
 pub fn read_manifest(
     alloc: Global,
     body: &[u8],

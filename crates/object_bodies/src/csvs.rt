@@ -76,9 +76,9 @@ impl Reader for DeploymentItem {
 }
 
 /// The reader of what an install strategy deploys.
-struct Strategy;
+struct InstallStrategy;
 
-impl Reader for Strategy {
+impl Reader for InstallStrategy {
     type Out = Many<Name>;
 
     ghost use Rattle.object_bodies.specs.Statuses.{deployment_names};
@@ -101,7 +101,7 @@ impl Reader for Install {
     ghost reading = { install_names };
 
     fn read(alloc: Global, value: &Value) -> Result<Many<Name>, Fault> {
-        opt_fields_at::<Strategy>(alloc, value, "spec")
+        opt_fields_at::<InstallStrategy>(alloc, value, "spec")
     }
 }
 

@@ -110,6 +110,73 @@ pub fn approval_at(alloc: Global, value: &Value, key: &str) -> Result<bool, Faul
     }
 }
 
+fn forward_of(word: Option<Text>) -> Result<bool, FieldKind>
+    ensures { result ≡ spec.forward_of word }
+{
+    match word {
+        None => Ok(false),
+        Some(word) => {
+            if is_word(word.as_slice(), b"TechPreviewUnsafeFailForward") {
+                Ok(true)
+            } else if is_word(word.as_slice(), b"Default") {
+                Ok(false)
+            } else {
+                Err(FieldKind::WrongType)
+            }
+        }
+    }
+}
+
+fn forward(alloc: Global, value: &Value, key: &str) -> Result<bool, FieldKind>
+    ensures { Gives field.is_free (field.field spec.as_forward (view value.now) key.now) result }
+{
+    match opt_text(alloc, value, key) {
+        Ok(word) => forward_of(word),
+        Err(kind) => Err(kind),
+    }
+}
+
+/// Whether upgrades may leave a version that failed.
+pub fn forward_at(alloc: Global, value: &Value, key: &str) -> Result<bool, Fault>
+    ensures { Gives is_free (at spec.as_forward key.now (view value.now)) result }
+{
+    match forward(alloc, value, key) {
+        Ok(forward) => Ok(forward),
+        Err(kind) => Err(Fault::here(alloc, kind).below_key(alloc, key)),
+    }
+}
+
+fn absent_value(value: &Value) -> Result<(), FieldKind>
+    ensures { result ≡ spec.as_absent (Some (view value.now)) }
+{
+    match value {
+        Value::Null => Ok(()),
+        _ => Err(FieldKind::WrongType),
+    }
+}
+
+fn absent(value: &Value, key: &str) -> Result<(), FieldKind>
+    ensures { result ≡ field.field spec.as_absent (view value.now) key.now }
+{
+    if !value.is_object() {
+        return Err(FieldKind::WrongType);
+    }
+    match value.get(key) {
+        None => Ok(()),
+        Some(found) => absent_value(found),
+    }
+}
+
+/// Whether nothing stands at a key.
+pub fn check_absent(alloc: Global, value: &Value, key: &str) -> Result<(), Fault>
+    ensures { Gives is_free (at spec.as_absent key.now (view value.now)) result }
+{
+    match absent(value, key) {
+        Ok(()) => Ok(()),
+        Err(kind) => Err(Fault::here(alloc, kind).below_key(alloc, key)),
+    }
+}
+
 #[tactic(auto, unfolding(version_ranges::specs::Words::version_of))]
 fn is_version(alloc: Global, text: &str) -> Result<bool, Memory>
     ensures { IfOk result (λ good. good ≡ is_some (version_of text.now)) }

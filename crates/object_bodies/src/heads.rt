@@ -8,7 +8,10 @@ ghost use Rattle.object_bodies.specs.Heads as spec;
 
 use crate::faults::{ObjectFault, unless_memory};
 use crate::fields::{fields_at, is_word};
-use cluster_objects::{Key, is_catalog_key, is_plan_key, is_resolution_key};
+use cluster_objects::{
+    Key, is_catalog_key, is_claims_key, is_group_key, is_lease_key, is_plan_key, is_resolution_key,
+    is_strategy_key,
+};
 use json_fields::{Fault, Reader, lend_text_at, name_at, opt_name_at};
 use olm_base::{FieldKind, Memory, Name, Text, is_group, is_outside_name};
 use serde_json::Value;
@@ -97,29 +100,56 @@ fn bare_key(alloc: Global, value: &Value) -> Result<Key, ObjectFault>
 fn is_forbidden(key: &Key) -> bool
     ensures { result ≡ spec.is_forbidden key.now }
 {
-    is_plan_key(key) || is_catalog_key(key) || is_resolution_key(key)
+    is_plan_key(key)
+        || is_catalog_key(key)
+        || is_resolution_key(key)
+        || is_claims_key(key)
+        || is_lease_key(key)
 }
 
-fn allowed(key: Key) -> Result<Key, ObjectFault>
-    ensures { result ≡ spec.allowed key }
+fn is_setting(key: &Key) -> bool
+    ensures { result ≡ spec.is_setting key.now }
 {
+    is_strategy_key(key) || is_group_key(key)
+}
+
+fn is_forbidden_in_plans(key: &Key) -> bool
+    ensures { result ≡ spec.is_forbidden_in_plans key.now }
+{
+    is_forbidden(key) || is_setting(key)
+}
+
+fn forbidden(key: Key) -> ObjectFault
+    ensures { result ≡ ObjectFault.Forbidden key.kind }
+{
+    let Key { kind, .. } = key;
+    ObjectFault::Forbidden { kind }
+}
+
+/// The key that a user's body gives, as yet without a namespace, where an object of its kind is made from one.
+pub fn user_key(alloc: Global, value: &Value) -> Result<Key, ObjectFault>
+    ensures { Gives is_free (spec.user_key (view value.now)) result }
+{
+    let key = bare_key(alloc, value)?;
     if is_forbidden(&key) {
-        let Key { kind, .. } = key;
-        return Err(ObjectFault::Forbidden { kind });
+        return Err(forbidden(key));
     }
     Ok(key)
 }
 
-/// The key that a body gives, as yet without a namespace, where an object of its kind is made from a body.
-pub fn allowed_key(alloc: Global, value: &Value) -> Result<Key, ObjectFault>
-    ensures { Gives is_free (spec.allowed_key (view value.now)) result }
+/// The key that a manifest gives, as yet without a namespace, where a plan may make an object of its kind.
+pub fn manifest_key(alloc: Global, value: &Value) -> Result<Key, ObjectFault>
+    ensures { Gives is_free (spec.manifest_key (view value.now)) result }
 {
     let key = bare_key(alloc, value)?;
-    allowed(key)
+    if is_forbidden_in_plans(&key) {
+        return Err(forbidden(key));
+    }
+    Ok(key)
 }
 
-fn is_global(kind: &Name) -> bool
-    ensures { result ≡ spec.is_global kind.now }
+fn is_clusterwide(kind: &Name) -> bool
+    ensures { result ≡ spec.is_clusterwide kind.now }
 {
     let kind = kind.as_bytes();
     is_word(kind, b"CustomResourceDefinition")
@@ -169,7 +199,7 @@ impl Reader for OwnNamespace {
 pub fn namespace_at(alloc: Global, kind: &Name, value: &Value) -> Result<Text, Fault>
     ensures { Gives free_fault (spec.namespace_at kind.now (view value.now)) result }
 {
-    if is_global(kind) {
+    if is_clusterwide(kind) {
         return Ok(Text::from_string(String::new(alloc)));
     }
     fields_at::<OwnNamespace>(alloc, value, "metadata")
@@ -179,7 +209,7 @@ pub fn namespace_at(alloc: Global, kind: &Name, value: &Value) -> Result<Text, F
 pub fn plan_namespace(alloc: Global, kind: &Name, namespace: &Name) -> Result<Text, Memory>
     ensures { IfOk result (λ text. text ≡ spec.plan_namespace kind.now namespace.now) }
 {
-    if is_global(kind) {
+    if is_clusterwide(kind) {
         return Ok(Text::from_string(String::new(alloc)));
     }
     Text::from_str(alloc, as_text(namespace))

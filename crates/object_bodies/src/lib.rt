@@ -10,6 +10,7 @@ mod bodies;
 mod csvs;
 mod faults;
 mod fields;
+mod groups;
 mod heads;
 mod laws;
 mod statuses;

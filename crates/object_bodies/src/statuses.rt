@@ -8,9 +8,10 @@ ghost use Rattle.object_bodies.specs.Statuses as spec;
 
 use crate::csvs::csv;
 use crate::fields::{approval_at, fields_at};
+use crate::groups::{new_group, new_strategy};
 use cluster_objects::{
     Key, Made, Readiness, Status, SubSpec, SubState, SubscriptionStatus, is_csv_key,
-    is_deployment_key, is_subscription_key,
+    is_deployment_key, is_group_key, is_strategy_key, is_subscription_key,
 };
 use json_fields::{Fault, Reader, name_at, opt_name_at};
 use serde_json::Value;
@@ -84,7 +85,7 @@ pub fn made_of(alloc: Global, key: &Key, value: &Value) -> Result<Made, Fault>
 }
 
 /// The status of the same name.
-pub fn made_status(made: Made) -> Status
+fn made_status(made: Made) -> Status
     ensures { result ≡ kind.status_of made }
 {
     match made {
@@ -92,5 +93,25 @@ pub fn made_status(made: Made) -> Status
         Made::Subscription(status) => Status::Subscription(status),
         Made::Csv(status) => Status::Csv(status),
         Made::Deployment(readiness) => Status::Deployment(readiness),
+    }
+}
+
+fn new_made(alloc: Global, key: &Key, value: &Value) -> Result<Status, Fault>
+    ensures { Gives is_free (spec.new_made key.now (view value.now)) result }
+{
+    let made = made_of(alloc, key, value)?;
+    Ok(made_status(made))
+}
+
+/// What a user's body makes, where its object stands at a key of this group and kind.
+pub fn new_status(alloc: Global, key: &Key, value: &Value) -> Result<Status, Fault>
+    ensures { Gives is_free (spec.new_status key.now (view value.now)) result }
+{
+    if is_strategy_key(key) {
+        new_strategy(alloc, value)
+    } else if is_group_key(key) {
+        new_group(alloc, value)
+    } else {
+        new_made(alloc, key, value)
     }
 }

@@ -3,6 +3,8 @@ use Rattle.std.specs.Prelude.{ℕ, Bool, if◌then◌else◌, is_some, List, Opt
 use Rattle.serde_json.specs.Data.{Data, null, boolean, number, string, array, object}
 use Rattle.serde_json.specs.Find.{get, as_str}
 use Rattle.cluster_objects.specs.Keys.{same_text}
+use Rattle.cluster_objects.specs.declared.objects.Writer.{Writer}
+use Rattle.cluster_objects.specs.declared.objects.Writer.TheVariants.{Resolver, Installer, Phases}
 use Rattle.cluster_objects.specs.declared.statuses.Readiness.{Readiness}
 use Rattle.cluster_objects.specs.declared.statuses.Readiness.TheVariants.{Ready, Failed}
 use Rattle.olm_base.specs.Fields.{some_text}
@@ -11,7 +13,7 @@ use Rattle.olm_base.specs.declared.fields.FieldKind.TheVariants.{Missing, WrongT
 use Rattle.json_fields.specs.declared.fault.Fault.{Fault}
 use Rattle.json_fields.specs.Faults.{and_then}
 use Rattle.json_fields.specs.Values.{at, present, name_at, text_at, group_at}
-use Rattle.event_script.specs.Numbers.{opt_signed_at, opt_count_at}
+use Rattle.event_script.specs.Numbers.{opt_signed_at, opt_count_at, count_at}
 use Rattle.event_script.specs.declared.events.Event.{Event}
 use Rattle.event_script.specs.declared.events.Event.TheVariants as event
 use Rattle.event_script.specs.declared.events.Word.{Word}
@@ -49,14 +51,18 @@ state_of text =
     else (if same_text text (codes "failed") then Ok Failed
     else Err BadName)
 
+-- a text that must be there, and is one of some words
+abbrev pub as_choice : {T : Type 0} → (List ℕ → Result T FieldKind) → Option Data → Result T FieldKind
+as_choice choose None = Err Missing
+as_choice choose (Some null) = Err Missing
+as_choice choose (Some (boolean b)) = Err WrongType
+as_choice choose (Some (number n)) = Err WrongType
+as_choice choose (Some (string s)) = choose s
+as_choice choose (Some (array ds)) = Err WrongType
+as_choice choose (Some (object ms)) = Err WrongType
+
 abbrev pub as_state : Option Data → Result Readiness FieldKind
-as_state None = Err Missing
-as_state (Some null) = Err Missing
-as_state (Some (boolean b)) = Err WrongType
-as_state (Some (number n)) = Err WrongType
-as_state (Some (string s)) = state_of s
-as_state (Some (array ds)) = Err WrongType
-as_state (Some (object ms)) = Err WrongType
+as_state = as_choice state_of
 
 abbrev pub state_at : List ℕ → Data → Result Readiness Fault
 state_at = at as_state
@@ -81,6 +87,73 @@ retry_event blob =
     and_then (opt_count_at least_budget greatest_budget (codes "budget") blob) (λ budget.
     Ok (event.Retry namespace budget)))
 
+-- the roles of workers; the user is none
+abbrev pub role_of : List ℕ → Result Writer FieldKind
+role_of text =
+    if same_text text (codes "resolver") then Ok Resolver
+    else (if same_text text (codes "installer") then Ok Installer
+    else (if same_text text (codes "phases") then Ok Phases
+    else Err BadName))
+
+abbrev pub as_role : Option Data → Result Writer FieldKind
+as_role = as_choice role_of
+
+abbrev pub role_at : List ℕ → Data → Result Writer Fault
+role_at = at as_role
+
+abbrev pub worker_event : Data → Result Event Fault
+worker_event blob =
+    and_then (role_at (codes "role") blob) (λ role.
+    and_then (name_at (codes "namespace") blob) (λ namespace.
+    Ok (event.Worker role namespace)))
+
+-- workers are numbered from 0, in 32 bits
+abbrev pub greatest_worker : ℕ
+greatest_worker = 4294967295
+
+abbrev pub worker_at : Data → Result ℕ Fault
+worker_at = count_at 0 greatest_worker (codes "worker")
+
+abbrev pub look_event : Data → Result Event Fault
+look_event blob = and_then (worker_at blob) (λ worker. Ok (event.Look worker))
+
+abbrev pub act_event : Data → Result Event Fault
+act_event blob = and_then (worker_at blob) (λ worker. Ok (event.Act worker))
+
+-- the least and the greatest number of turns
+abbrev pub least_turns : ℕ
+least_turns = 1
+
+abbrev pub greatest_turns : ℕ
+greatest_turns = 1000000
+
+abbrev pub settle_event : Data → Result Event Fault
+settle_event blob =
+    and_then (name_at (codes "namespace") blob) (λ namespace.
+    and_then (opt_count_at least_turns greatest_turns (codes "turns") blob) (λ turns.
+    Ok (event.Settle namespace turns)))
+
+abbrev pub release_event : Data → Result Event Fault
+release_event blob = and_then (name_at (codes "namespace") blob) (λ namespace. Ok (event.Release namespace))
+
+-- the greatest moment, 2^62
+abbrev pub greatest_now : ℕ
+greatest_now = 4611686018427387904
+
+-- the least and the greatest time to keep a lease
+abbrev pub least_keep : ℕ
+least_keep = 1
+
+abbrev pub greatest_keep : ℕ
+greatest_keep = 86400
+
+abbrev pub lease_event : Data → Result Event Fault
+lease_event blob =
+    and_then (worker_at blob) (λ worker.
+    and_then (count_at 0 greatest_now (codes "now") blob) (λ now.
+    and_then (count_at least_keep greatest_keep (codes "keep") blob) (λ keep.
+    Ok (event.Lease worker now keep))))
+
 -- ---- which event a blob is
 
 abbrev pub word_of : List ℕ → Word
@@ -90,8 +163,14 @@ word_of text =
     else (if same_text text (codes "catalog") then word.Catalog
     else (if same_text text (codes "ready") then word.Ready
     else (if same_text text (codes "retry") then word.Retry
+    else (if same_text text (codes "worker") then word.Worker
+    else (if same_text text (codes "look") then word.Look
+    else (if same_text text (codes "act") then word.Act
+    else (if same_text text (codes "settle") then word.Settle
     else (if same_text text (codes "restart") then word.Restart
-    else word.Other)))))
+    else (if same_text text (codes "release") then word.Release
+    else (if same_text text (codes "lease") then word.Lease
+    else word.Other)))))))))))
 
 -- A blob's text field `event`: a text that isn't empty. Any other value there, `null` and the empty text among them, is no such field.
 abbrev pub event_text : Data → Option (List ℕ)

@@ -3,7 +3,7 @@ use Rattle.std.specs.Prelude.{ℕ, ℤ, List, ◌&&◌, nat_le, if◌then◌else
 use Rattle.serde_json.specs.Data.{Num, Data, null, boolean, number, string, array, object}
 use Rattle.serde_json.specs.Find.{as_u64, as_i64}
 use Rattle.olm_base.specs.declared.fields.FieldKind.{FieldKind}
-use Rattle.olm_base.specs.declared.fields.FieldKind.TheVariants.{WrongType, Number}
+use Rattle.olm_base.specs.declared.fields.FieldKind.TheVariants.{Missing, WrongType, Number}
 use Rattle.json_fields.specs.declared.fault.Fault.{Fault}
 use Rattle.json_fields.specs.Values.{at}
 
@@ -35,14 +35,30 @@ as_opt_number read (Some (string s)) = Err WrongType
 as_opt_number read (Some (array ds)) = Err WrongType
 as_opt_number read (Some (object ms)) = Err WrongType
 
+-- a number that must be there
+abbrev pub as_number : {T : Type 0} → (Num → Result T FieldKind) → Option Data → Result T FieldKind
+as_number read None = Err Missing
+as_number read (Some null) = Err Missing
+as_number read (Some (boolean b)) = Err WrongType
+as_number read (Some (number n)) = read n
+as_number read (Some (string s)) = Err WrongType
+as_number read (Some (array ds)) = Err WrongType
+as_number read (Some (object ms)) = Err WrongType
+
 abbrev pub as_opt_signed : Option Data → Result (Option ℤ) FieldKind
 as_opt_signed = as_opt_number signed_of
 
 abbrev pub as_opt_count : ℕ → ℕ → Option Data → Result (Option ℕ) FieldKind
 as_opt_count least greatest = as_opt_number (count_of least greatest)
 
+abbrev pub as_count : ℕ → ℕ → Option Data → Result ℕ FieldKind
+as_count least greatest = as_number (count_of least greatest)
+
 abbrev pub opt_signed_at : List ℕ → Data → Result (Option ℤ) Fault
 opt_signed_at = at as_opt_signed
 
 abbrev pub opt_count_at : ℕ → ℕ → List ℕ → Data → Result (Option ℕ) Fault
 opt_count_at least greatest = at (as_opt_count least greatest)
+
+abbrev pub count_at : ℕ → ℕ → List ℕ → Data → Result ℕ Fault
+count_at least greatest = at (as_count least greatest)

@@ -12,7 +12,8 @@ use Rattle.event_script.specs.declared.events.Word.{Word}
 use Rattle.event_script.specs.declared.events.Word.TheVariants as word
 use Rattle.event_script.specs.declared.reading.EventFault.{EventFault}
 use Rattle.event_script.specs.declared.reading.EventFault.TheVariants.{Stream as InStream, Field, NoEvent, UnknownEvent, Memory}
-use Rattle.event_script.specs.Events.{delete_event, approve_event, catalog_event, ready_event, retry_event, event_word, has_kind}
+use Rattle.event_script.specs.Running.{runs_now}
+use Rattle.event_script.specs.Events.{delete_event, approve_event, catalog_event, ready_event, retry_event, worker_event, look_event, act_event, settle_event, release_event, lease_event, event_word, has_kind}
 
 -- want of memory alone is free
 abbrev pub is_free : EventFault → Bool
@@ -40,8 +41,18 @@ named_event number word.Approve blob = numbered number (approve_event blob)
 named_event number word.Catalog blob = numbered number (catalog_event blob)
 named_event number word.Ready blob = numbered number (ready_event blob)
 named_event number word.Retry blob = numbered number (retry_event blob)
+named_event number word.Worker blob = numbered number (worker_event blob)
+named_event number word.Look blob = numbered number (look_event blob)
+named_event number word.Act blob = numbered number (act_event blob)
+named_event number word.Settle blob = numbered number (settle_event blob)
 named_event number word.Restart blob = Ok event.Restart
+named_event number word.Release blob = numbered number (release_event blob)
+named_event number word.Lease blob = numbered number (lease_event blob)
 named_event number word.Other blob = Err (UnknownEvent number)
+
+-- the same while some events don't run: a script that names one of them names none
+abbrev pub run_named : ℕ → Word → Data → Result Event EventFault
+run_named number named blob = if runs_now named then named_event number named blob else Err (UnknownEvent number)
 
 -- a blob whose event is not named is the object to be applied, by its own bytes
 abbrev pub unnamed_event : ℕ → Data → List ℕ → Result Event EventFault
@@ -49,7 +60,7 @@ unnamed_event number blob bytes = if has_kind blob then Ok (event.Apply bytes) e
 
 abbrev pub by_word : ℕ → Data → List ℕ → Option Word → Result Event EventFault
 by_word number blob bytes None = unnamed_event number blob bytes
-by_word number blob bytes (Some found) = named_event number found blob
+by_word number blob bytes (Some found) = run_named number found blob
 
 -- The event of the blob of this number, which is this value and has these bytes.
 abbrev pub event_of : ℕ → Data → List ℕ → Result Event EventFault

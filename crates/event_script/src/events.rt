@@ -6,9 +6,9 @@ ghost use Rattle.olm_base.specs.Fields.{field};
 ghost use Rattle.json_fields.specs.Faults.{is_free};
 ghost use Rattle.event_script.specs.Events as spec;
 
-use crate::numbers::{opt_count_at, opt_signed_at};
+use crate::numbers::{count_at, opt_count_at, opt_signed_at, wide_count_at};
 use crate::paths::at;
-use cluster_objects::Readiness;
+use cluster_objects::{Readiness, Writer};
 use json_fields::{Fault, group_at, name_at, text_at};
 use olm_base::{Bytes, FieldKind, Name, Text};
 use serde_json::Value;
@@ -53,14 +53,60 @@ pub enum Event {
         namespace: Name,
         budget: Option<u32>,
     },
+    /// A worker of this role comes to the namespace; its role is never User in an event that was read.
+    Worker {
+        role: Writer,
+        namespace: Name,
+    },
+    /// The worker of this number takes a new view.
+    Look {
+        worker: u32,
+    },
+    /// The worker of this number makes one write of its own.
+    Act {
+        worker: u32,
+    },
+    /// The workers of the namespace take turns until none has a write to make, for at most so many turns, from 1 to
+    /// 1,000,000 in an event that was read.
+    Settle {
+        namespace: Name,
+        turns: Option<u32>,
+    },
     /// The store is opened anew.
     Restart,
+    /// The user takes the entries of the namespace out of the claims.
+    Release {
+        namespace: Name,
+    },
+    /// The worker of this number asks for the lease of its role at the moment `now`, at most 2^62, for `keep`, from 1
+    /// to 86,400, in an event that was read.
+    Lease {
+        worker: u32,
+        now: u64,
+        keep: u64,
+    },
 }
 
 /// The least and the greatest budget of lemmas that an event may give.
 const LEAST_BUDGET: u32 = 1;
 
 const GREATEST_BUDGET: u32 = 16_777_216;
+
+/// The least and the greatest number of turns that an event may give.
+const LEAST_TURNS: u32 = 1;
+
+const GREATEST_TURNS: u32 = 1_000_000;
+
+/// The greatest number of a worker.
+const GREATEST_WORKER: u32 = 4_294_967_295;
+
+/// The greatest moment of an event, 2^62.
+const GREATEST_NOW: u64 = 4_611_686_018_427_387_904;
+
+/// The least and the greatest time for which an event may ask for a lease.
+const LEAST_KEEP: u64 = 1;
+
+const GREATEST_KEEP: u64 = 86_400;
 
 /// The words that name an event, and any other word.
 #[derive(Clone, Copy, Debug, PartialEq, Eq)]
@@ -70,7 +116,13 @@ pub enum Word {
     Catalog,
     Ready,
     Retry,
+    Worker,
+    Look,
+    Act,
+    Settle,
     Restart,
+    Release,
+    Lease,
     Other,
 }
 
@@ -87,8 +139,20 @@ fn word_of(text: &[u8]) -> Word
         Word::Ready
     } else if text == b"retry".as_slice() {
         Word::Retry
+    } else if text == b"worker".as_slice() {
+        Word::Worker
+    } else if text == b"look".as_slice() {
+        Word::Look
+    } else if text == b"act".as_slice() {
+        Word::Act
+    } else if text == b"settle".as_slice() {
+        Word::Settle
     } else if text == b"restart".as_slice() {
         Word::Restart
+    } else if text == b"release".as_slice() {
+        Word::Release
+    } else if text == b"lease".as_slice() {
+        Word::Lease
     } else {
         Word::Other
     }
@@ -208,4 +272,90 @@ pub fn retry_event(alloc: Global, blob: &Value) -> Result<Event, Fault>
     let namespace = name_at(alloc, blob, "namespace")?;
     let budget = opt_count_at(alloc, blob, "budget", LEAST_BUDGET, GREATEST_BUDGET)?;
     Ok(Event::Retry { namespace, budget })
+}
+
+fn role_of(text: &[u8]) -> Result<Writer, FieldKind>
+    ensures { result ≡ spec.role_of text.now }
+{
+    if text == b"resolver".as_slice() {
+        Ok(Writer::Resolver)
+    } else if text == b"installer".as_slice() {
+        Ok(Writer::Installer)
+    } else if text == b"phases".as_slice() {
+        Ok(Writer::Phases)
+    } else {
+        Err(FieldKind::BadName)
+    }
+}
+
+fn role(value: &Value, key: &str) -> Result<Writer, FieldKind>
+    ensures { result ≡ field spec.as_role (view value.now) key.now }
+{
+    if !value.is_object() {
+        return Err(FieldKind::WrongType);
+    }
+    match value.get(key) {
+        None | Some(Value::Null) => Err(FieldKind::Missing),
+        Some(Value::String(text)) => role_of(text.as_bytes()),
+        Some(_) => Err(FieldKind::WrongType),
+    }
+}
+
+fn role_at(alloc: Global, value: &Value, key: &str) -> Result<Writer, Fault>
+    ensures { Gives is_free (spec.role_at key.now (view value.now)) result }
+{
+    at(alloc, role(value, key), key)
+}
+
+pub fn worker_event(alloc: Global, blob: &Value) -> Result<Event, Fault>
+    ensures { Gives is_free (spec.worker_event (view blob.now)) result }
+{
+    let role = role_at(alloc, blob, "role")?;
+    let namespace = name_at(alloc, blob, "namespace")?;
+    Ok(Event::Worker { role, namespace })
+}
+
+/// The number of a worker.
+fn worker_at(alloc: Global, blob: &Value) -> Result<u32, Fault>
+    ensures { Gives is_free (spec.worker_at (view blob.now)) result }
+{
+    count_at(alloc, blob, "worker", 0, GREATEST_WORKER)
+}
+
+pub fn look_event(alloc: Global, blob: &Value) -> Result<Event, Fault>
+    ensures { Gives is_free (spec.look_event (view blob.now)) result }
+{
+    let worker = worker_at(alloc, blob)?;
+    Ok(Event::Look { worker })
+}
+
+pub fn act_event(alloc: Global, blob: &Value) -> Result<Event, Fault>
+    ensures { Gives is_free (spec.act_event (view blob.now)) result }
+{
+    let worker = worker_at(alloc, blob)?;
+    Ok(Event::Act { worker })
+}
+
+pub fn settle_event(alloc: Global, blob: &Value) -> Result<Event, Fault>
+    ensures { Gives is_free (spec.settle_event (view blob.now)) result }
+{
+    let namespace = name_at(alloc, blob, "namespace")?;
+    let turns = opt_count_at(alloc, blob, "turns", LEAST_TURNS, GREATEST_TURNS)?;
+    Ok(Event::Settle { namespace, turns })
+}
+
+pub fn release_event(alloc: Global, blob: &Value) -> Result<Event, Fault>
+    ensures { Gives is_free (spec.release_event (view blob.now)) result }
+{
+    let namespace = name_at(alloc, blob, "namespace")?;
+    Ok(Event::Release { namespace })
+}
+
+pub fn lease_event(alloc: Global, blob: &Value) -> Result<Event, Fault>
+    ensures { Gives is_free (spec.lease_event (view blob.now)) result }
+{
+    let worker = worker_at(alloc, blob)?;
+    let now = wide_count_at(alloc, blob, "now", 0, GREATEST_NOW)?;
+    let keep = wide_count_at(alloc, blob, "keep", LEAST_KEEP, GREATEST_KEEP)?;
+    Ok(Event::Lease { worker, now, keep })
 }

@@ -36,6 +36,21 @@ fn count_of(number: &Number, least: u32, greatest: u32) -> Result<u32, FieldKind
     }
 }
 
+fn wide_count_of(number: &Number, least: u64, greatest: u64) -> Result<u64, FieldKind>
+    ensures { result ≡ spec.count_of least greatest (number_view number.now) }
+{
+    match number.as_u64() {
+        Some(found) => {
+            if least <= found && found <= greatest {
+                Ok(found)
+            } else {
+                Err(FieldKind::Number)
+            }
+        }
+        None => Err(FieldKind::Number),
+    }
+}
+
 fn opt_signed(value: &Value, key: &str) -> Result<Option<i64>, FieldKind>
     ensures { result ≡ field spec.as_opt_signed (view value.now) key.now }
 {
@@ -68,6 +83,32 @@ fn opt_count(value: &Value, key: &str, least: u32, greatest: u32) -> Result<Opti
     }
 }
 
+fn count(value: &Value, key: &str, least: u32, greatest: u32) -> Result<u32, FieldKind>
+    ensures { result ≡ field (spec.as_count least greatest) (view value.now) key.now }
+{
+    if !value.is_object() {
+        return Err(FieldKind::WrongType);
+    }
+    match value.get(key) {
+        None | Some(Value::Null) => Err(FieldKind::Missing),
+        Some(Value::Number(number)) => count_of(number, least, greatest),
+        Some(_) => Err(FieldKind::WrongType),
+    }
+}
+
+fn wide_count(value: &Value, key: &str, least: u64, greatest: u64) -> Result<u64, FieldKind>
+    ensures { result ≡ field (spec.as_count least greatest) (view value.now) key.now }
+{
+    if !value.is_object() {
+        return Err(FieldKind::WrongType);
+    }
+    match value.get(key) {
+        None | Some(Value::Null) => Err(FieldKind::Missing),
+        Some(Value::Number(number)) => wide_count_of(number, least, greatest),
+        Some(_) => Err(FieldKind::WrongType),
+    }
+}
+
 /// The integer at a key, of 64 bits with a sign; None where it is absent or `null`.
 pub fn opt_signed_at(alloc: Global, value: &Value, key: &str) -> Result<Option<i64>, Fault>
     ensures { Gives is_free (spec.opt_signed_at key.now (view value.now)) result }
@@ -86,4 +127,30 @@ pub fn opt_count_at(
     ensures { Gives is_free (spec.opt_count_at least greatest key.now (view value.now)) result }
 {
     at(alloc, opt_count(value, key, least, greatest), key)
+}
+
+/// The integer at a key, from `least` to `greatest`, which must be there.
+pub fn count_at(
+    alloc: Global,
+    value: &Value,
+    key: &str,
+    least: u32,
+    greatest: u32,
+) -> Result<u32, Fault>
+    ensures { Gives is_free (spec.count_at least greatest key.now (view value.now)) result }
+{
+    at(alloc, count(value, key, least, greatest), key)
+}
+
+/// The same of 64 bits.
+pub fn wide_count_at(
+    alloc: Global,
+    value: &Value,
+    key: &str,
+    least: u64,
+    greatest: u64,
+) -> Result<u64, Fault>
+    ensures { Gives is_free (spec.count_at least greatest key.now (view value.now)) result }
+{
+    at(alloc, wide_count(value, key, least, greatest), key)
 }

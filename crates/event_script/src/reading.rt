@@ -8,11 +8,13 @@ ghost use Rattle.catalog_stream.specs.Stream as stream;
 ghost use Rattle.json_fields.specs.declared.fault.Fault.{Fault};
 ghost use Rattle.event_script.specs.declared.events.Event.{Event};
 ghost use Rattle.event_script.specs.Ranges.{IsInRange};
+ghost use Rattle.event_script.specs.Running.{RunsNow};
+ghost use Rattle.event_script.specs.Running as running;
 ghost use Rattle.event_script.specs.Script as spec;
 
 use crate::events::{
-    Event, Word, approve_event, catalog_event, delete_event, event_word, has_kind, ready_event,
-    retry_event,
+    Event, Word, act_event, approve_event, catalog_event, delete_event, event_word, has_kind,
+    lease_event, look_event, ready_event, release_event, retry_event, settle_event, worker_event,
 };
 use catalog_stream::{Blob, Blobs, StreamFault};
 use json_fields::Fault;
@@ -91,9 +93,40 @@ fn read_named(alloc: Global, number: u32, word: Word, blob: &Value) -> Result<Ev
         Word::Catalog => numbered(number, catalog_event(alloc, blob)),
         Word::Ready => numbered(number, ready_event(alloc, blob)),
         Word::Retry => numbered(number, retry_event(alloc, blob)),
+        Word::Worker => numbered(number, worker_event(alloc, blob)),
+        Word::Look => numbered(number, look_event(alloc, blob)),
+        Word::Act => numbered(number, act_event(alloc, blob)),
+        Word::Settle => numbered(number, settle_event(alloc, blob)),
         Word::Restart => Ok(Event::Restart),
+        Word::Release => numbered(number, release_event(alloc, blob)),
+        Word::Lease => numbered(number, lease_event(alloc, blob)),
         Word::Other => Err(EventFault::UnknownEvent { blob: number }),
     }
+}
+
+/// Whether a run applies the event of this word by now.
+fn runs_now(word: Word) -> bool
+    ensures { result ≡ running.runs_now word }
+{
+    match word {
+        Word::Delete
+        | Word::Approve
+        | Word::Catalog
+        | Word::Ready
+        | Word::Retry
+        | Word::Restart
+        | Word::Release => true,
+        Word::Worker | Word::Look | Word::Act | Word::Settle | Word::Lease | Word::Other => false,
+    }
+}
+
+fn read_run(alloc: Global, number: u32, word: Word, blob: &Value) -> Result<Event, EventFault>
+    ensures { Gives spec.is_free (spec.run_named number word (view blob.now)) result }
+{
+    if !runs_now(word) {
+        return Err(EventFault::UnknownEvent { blob: number });
+    }
+    read_named(alloc, number, word, blob)
 }
 
 fn read_unnamed(alloc: Global, number: u32, blob: &Value, bytes: &[u8]) -> Result<Event, EventFault>
@@ -115,7 +148,7 @@ fn read_event(alloc: Global, number: u32, blob: &Value, bytes: &[u8]) -> Result<
     ensures { Gives spec.is_free (spec.event_of number (view blob.now) bytes.now) result }
 {
     match event_word(blob) {
-        Some(word) => read_named(alloc, number, word, blob),
+        Some(word) => read_run(alloc, number, word, blob),
         None => read_unnamed(alloc, number, blob, bytes),
     }
 }
@@ -134,6 +167,7 @@ pub fn read_events(alloc: Global, text: &[u8]) -> Result<Many<Event>, EventFault
     requires { length text.now ≤ 2 ^ 31 }
     ensures answer { Gives spec.is_free (spec.events_of text.now) result }
     ensures ranges { IfOk result (λ events. All IsInRange events) }
+    ensures run { IfOk result (λ events. All RunsNow events) }
 {
     let mut blobs = Blobs::new(text);
     let mut found = Vec::new(alloc);

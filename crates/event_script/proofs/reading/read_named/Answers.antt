@@ -30,3 +30,33 @@ pub returns-in-Retry : goal.returns-in-Retry
 returns-in-Retry c =
     subst (λ (word : Word). Gives spec.is_free (spec.named_event c.args.number word (view c.args.blob.now)) c.numbered-in-Retry.result) (sym c.in-Retry.is)
     (c.numbered-in-Retry.ensures (event.retry_event (view c.args.blob.now)) c.retry_event.ensures)
+
+pub returns-in-Worker : goal.returns-in-Worker
+returns-in-Worker c =
+    subst (λ (word : Word). Gives spec.is_free (spec.named_event c.args.number word (view c.args.blob.now)) c.numbered-in-Worker.result) (sym c.in-Worker.is)
+    (c.numbered-in-Worker.ensures (event.worker_event (view c.args.blob.now)) c.worker_event.ensures)
+
+pub returns-in-Look : goal.returns-in-Look
+returns-in-Look c =
+    subst (λ (word : Word). Gives spec.is_free (spec.named_event c.args.number word (view c.args.blob.now)) c.numbered-in-Look.result) (sym c.in-Look.is)
+    (c.numbered-in-Look.ensures (event.look_event (view c.args.blob.now)) c.look_event.ensures)
+
+pub returns-in-Act : goal.returns-in-Act
+returns-in-Act c =
+    subst (λ (word : Word). Gives spec.is_free (spec.named_event c.args.number word (view c.args.blob.now)) c.numbered-in-Act.result) (sym c.in-Act.is)
+    (c.numbered-in-Act.ensures (event.act_event (view c.args.blob.now)) c.act_event.ensures)
+
+pub returns-in-Settle : goal.returns-in-Settle
+returns-in-Settle c =
+    subst (λ (word : Word). Gives spec.is_free (spec.named_event c.args.number word (view c.args.blob.now)) c.numbered-in-Settle.result) (sym c.in-Settle.is)
+    (c.numbered-in-Settle.ensures (event.settle_event (view c.args.blob.now)) c.settle_event.ensures)
+
+pub returns-in-Release : goal.returns-in-Release
+returns-in-Release c =
+    subst (λ (word : Word). Gives spec.is_free (spec.named_event c.args.number word (view c.args.blob.now)) c.numbered-in-Release.result) (sym c.in-Release.is)
+    (c.numbered-in-Release.ensures (event.release_event (view c.args.blob.now)) c.release_event.ensures)
+
+pub returns-in-Lease : goal.returns-in-Lease
+returns-in-Lease c =
+    subst (λ (word : Word). Gives spec.is_free (spec.named_event c.args.number word (view c.args.blob.now)) c.numbered-in-Lease.result) (sym c.in-Lease.is)
+    (c.numbered-in-Lease.ensures (event.lease_event (view c.args.blob.now)) c.lease_event.ensures)

@@ -1,7 +1,8 @@
 // Bodies of objects, as a user gives them and as a plan carries them.
 use crate::rows::{Stop, name_of, parted, put_text};
 use cluster_objects::{
-    Crd, CsvStatus, Key, Made, Status, SubSpec, SubscriptionStatus, print_key, status_of,
+    Crd, CsvStatus, GroupStatus, Key, Made, Status, SubSpec, SubscriptionStatus, print_key,
+    status_of,
 };
 use object_bodies::{ObjectFault, read_manifest, read_object};
 use olm_base::Name;
@@ -74,10 +75,20 @@ fn put_subscription(out: &mut String, status: &SubscriptionStatus) -> Result<(),
     Ok(write!(out, " {:?}", status.state)?)
 }
 
+fn put_group(out: &mut String, status: &GroupStatus) -> Result<(), Stop> {
+    out.push_str("group ")?;
+    match &status.targets {
+        Some(names) => put_names(out, names.as_slice()),
+        None => Ok(out.push_str("all")?),
+    }
+}
+
 fn put_status(out: &mut String, status: &Status) -> Result<(), Stop> {
     match status {
         Status::Subscription(status) => put_subscription(out, status),
         Status::Csv(status) => put_csv(out, status),
+        Status::Strategy(status) => Ok(write!(out, "strategy {}", status.forward)?),
+        Status::Group(status) => put_group(out, status),
         other => Ok(write!(out, "{other:?}")?),
     }
 }

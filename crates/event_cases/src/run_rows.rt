@@ -1,6 +1,7 @@
 // Runs of events over a store and a folder in memory.
 ghost use Rattle.std.specs.Prelude.{◌≡◌, ◌≤◌, ◌^◌, true, All, length};
 ghost use Rattle.event_script.specs.Ranges.{IsInRange};
+ghost use Rattle.event_script.specs.Running.{RunsNow};
 
 use crate::object_rows::put_key;
 use crate::rows::{
@@ -43,6 +44,7 @@ fn run_over(
 ) -> Result<(), Stop>
     requires ready { cluster.old.ready ≡ true }
     requires ranges { All IsInRange events.now }
+    requires run { All RunsNow events.now }
 {
     let end = match run_events(alloc, events, cluster, folder, sink) {
         Ok(()) => "done\n",

@@ -1,6 +1,9 @@
 -- Events that go by one after the other, with one more behind them.
-use Rattle.std.proofs.Common.{◌≡◌, ℕ, Bool, List, [], ◌∷◌, ◌++◌, Option, Some, Result, Ok, Err, refl, sym, ap, ◌∙◌, subst, append_assoc, append-nil, take, drop, suc, ◌+◌, ◌<◌, length, get_or, add-one, take-suc, take-append-drop, drop-cons}
+use Rattle.std.proofs.Common.{◌≡◌, ℕ, Bool, List, [], ◌∷◌, ◌++◌, Option, Some, Result, Ok, Err, refl, sym, ap, ◌∙◌, subst, append_assoc, append-nil, take, drop, suc, ◌+◌, ◌<◌, length, get_or, add-one, take-suc, take-append-drop, drop-cons, false}
 use Rattle.std.specs.Io.KnownBytes.{Appends}
+use Rattle.std.specs.List.{list_any}
+use Rattle.std.proofs.lemmas.Bool.{or_parts}
+use Rattle.std.proofs.lemmas.List.Folds.{list_any-append}
 use Rattle.std.proofs.KnownBytes.{Appends-trans}
 use Rattle.cluster_objects.specs.declared.objects.Write.{Write}
 use Rattle.cluster_history.specs.History.{History}
@@ -60,3 +63,10 @@ taken_more es i e lt is =
 
 pub split_at : (es : List Event) (i : ℕ) (e : Event) → i < length es → e ≡ get_or es i e → es ≡ take i es ++ e ∷ drop (suc i) es
 split_at es i e lt is = sym (take-append-drop i es) ∙ ap (λ rest. take i es ++ rest) (drop-cons es i e lt ∙ ap (λ x. x ∷ drop (suc i) es) (sym is))
+
+-- what no event of a list is, none of them is
+pub none_at : (test : Event → Bool) (es : List Event) (i : ℕ) (e : Event) → i < length es → e ≡ get_or es i e → list_any test es ≡ false → test e ≡ false
+none_at test es i e lt is none =
+    let parts = sym (ap (list_any test) (split_at es i e lt is) ∙ list_any-append test (take i es) (e ∷ drop (suc i) es)) ∙ none in
+    let here = (or_parts (list_any test (take i es)) (list_any test (e ∷ drop (suc i) es)) parts).1 in
+    (or_parts (test e) (list_any test (drop (suc i) es)) here).0

@@ -8,6 +8,7 @@ use Rattle.cluster_objects.specs.declared.objects.Write.{Write}
 use Rattle.cluster_history.specs.History.{History, After, position}
 use Rattle.event_script.specs.declared.events.Event.{Event}
 use Rattle.event_script.specs.declared.events.Event.TheVariants as event
+use Rattle.event_script.specs.Running.{RunsNow}
 use Rattle.user_events.specs.Answers.{Answers}
 use Rattle.user_events.specs.declared.answers.UserAnswer.{UserAnswer}
 use Rattle.user_events.specs.declared.answers.UserAnswer.TheVariants as answer
@@ -44,19 +45,25 @@ module _ (tells : Bool) (fits : History → Write → Bool) (limit : ℕ) (files
       printed (refused_line e reason)
       (subst (λ n. Passes tells fits limit files h e n (refused_line e reason)) (sym same) (Refused e reason asks)) (subst (MayLeave tells fits limit files h e) (sym same) (Nothing e)) r p
 
--- An event that is no user's is a restart.
-no_users : (e : Event) → is_users e ≡ false → e ≡ event.Restart
-no_users event.Restart users = refl
-no_users (event.Apply body) users = absurd (cc)
-no_users (event.Delete group kind namespace name) users = absurd (cc)
-no_users (event.Approve namespace name) users = absurd (cc)
-no_users (event.Catalog namespace name path priority) users = absurd (cc)
-no_users (event.Ready namespace name state) users = absurd (cc)
-no_users (event.Retry namespace budget) users = absurd (cc)
+-- An event that a run applies and that is no user's is a restart.
+no_users : (e : Event) → is_users e ≡ false → RunsNow e → e ≡ event.Restart
+no_users (event.Apply body) users run = absurd (cc)
+no_users (event.Delete group kind namespace name) users run = absurd (cc)
+no_users (event.Approve namespace name) users run = absurd (cc)
+no_users (event.Catalog namespace name path priority) users run = absurd (cc)
+no_users (event.Ready namespace name state) users run = absurd (cc)
+no_users (event.Retry namespace budget) users run = absurd (cc)
+no_users (event.Worker role namespace) users run = absurd (cc)
+no_users (event.Look worker) users run = absurd (cc)
+no_users (event.Act worker) users run = absurd (cc)
+no_users (event.Settle namespace turns) users run = absurd (cc)
+no_users event.Restart users run = refl
+no_users (event.Release namespace) users run = absurd (cc)
+no_users (event.Lease worker now keep) users run = absurd (cc)
 
-module _ (tells : Bool) (fits : History → Write → Bool) (limit : ℕ) (files : Files) (h new : History) (e : Event) (users : is_users e ≡ false) (same : IsReopened tells h new) where
+module _ (tells : Bool) (fits : History → Write → Bool) (limit : ℕ) (files : Files) (h new : History) (e : Event) (users : is_users e ≡ false) (run : RunsNow e) (same : IsReopened tells h new) where
   at_restart : (P : Event → Type 0) → P event.Restart → P e
-  at_restart P p = subst P (sym (no_users e users)) p
+  at_restart P p = subst P (sym (no_users e users run)) p
 
   pub restart_steps : (before now : Option (List ℕ)) (r : Result Unit Halt) → Prints restart_line before now r → Steps tells fits limit files h e new before now r
   restart_steps before now r p =
@@ -67,7 +74,7 @@ module _ (tells : Bool) (fits : History → Write → Bool) (limit : ℕ) (files
   reopen_steps before = at_restart (λ e. Steps tells fits limit files h e new before before (Err halt.StoreFailed)) (tt, Reopened new same, Appends-nil before)
 
   pub damaged_steps : (before : Option (List ℕ)) (at : ℕ) → tells ≡ false → Steps tells fits limit files h e new before before (Err (halt.Damaged at))
-  damaged_steps before at untold = (untold, no_users e users, Appends-nil before)
+  damaged_steps before at untold = (untold, no_users e users run, Appends-nil before)
 
   pub unread_steps : (before : Option (List ℕ)) → Steps tells fits limit files h e new before before (Err halt.Memory)
   unread_steps before = at_restart (λ e. Steps tells fits limit files h e new before before (Err halt.Memory)) (Reopened new same, Appends-nil before)

@@ -76,16 +76,31 @@ Runs tells fits limit files h es new before now (Err end) = HaltsAmong tells fit
 
 -- a call of the store, the folder or the output failed
 abbrev pub store_failed : Result Unit Halt → Bool
+store_failed (Ok done) = false
+store_failed (Err halt.OutputFailed) = false
+store_failed (Err halt.FolderFailed) = false
 store_failed (Err halt.StoreFailed) = true
-store_failed _ = false
+store_failed (Err (halt.Damaged at)) = false
+store_failed (Err halt.Full) = false
+store_failed (Err halt.Memory) = false
 
 abbrev pub folder_failed : Result Unit Halt → Bool
+folder_failed (Ok done) = false
+folder_failed (Err halt.OutputFailed) = false
 folder_failed (Err halt.FolderFailed) = true
-folder_failed _ = false
+folder_failed (Err halt.StoreFailed) = false
+folder_failed (Err (halt.Damaged at)) = false
+folder_failed (Err halt.Full) = false
+folder_failed (Err halt.Memory) = false
 
 abbrev pub output_failed : Result Unit Halt → Bool
+output_failed (Ok done) = false
 output_failed (Err halt.OutputFailed) = true
-output_failed _ = false
+output_failed (Err halt.FolderFailed) = false
+output_failed (Err halt.StoreFailed) = false
+output_failed (Err (halt.Damaged at)) = false
+output_failed (Err halt.Full) = false
+output_failed (Err halt.Memory) = false
 
 -- A line is put whole, or a front of it where the output fails; want of memory puts nothing.
 abbrev pub Prints : List ℕ → Option (List ℕ) → Option (List ℕ) → Result Unit Halt → Type 0

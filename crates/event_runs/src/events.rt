@@ -5,6 +5,7 @@ ghost use Rattle.cluster_objects.specs.declared.objects.Write.{Write};
 ghost use Rattle.cluster_history.specs.History.{History};
 ghost use Rattle.object_store.specs.Puts.{IsSound};
 ghost use Rattle.event_script.specs.Ranges.{IsInRange};
+ghost use Rattle.event_script.specs.Running.{RunsNow};
 ghost use Rattle.user_events.specs.Answers as answers;
 ghost use Rattle.folder_events.specs.Events.{Asks, HasKey, is_of_folder, is_users};
 ghost use Rattle.event_runs.specs.Lines as lines;
@@ -106,6 +107,7 @@ fn run_users<C: Cluster, F: Folder, O: Sink>(
     ensures sound { IsSound (C.tells cluster.new) (C.ready cluster.new) (C.damage cluster.new) }
     ensures ready { OnOk result (C.ready cluster.new ≡ true) }
     ensures same { F.held folder.new ≡ F.held folder.old }
+    ensures untouched { is_of_folder event.now ≡ false → folder.new ≡ folder.old }
     ensures store { HasCause (C.faults cluster.old) (C.faults cluster.new) (spec.store_failed result ≡ true) }
     ensures folder { HasCause (F.faults folder.old) (F.faults folder.new) (spec.folder_failed result ≡ true) }
     ensures output { HasCause (O.faults out.old) (O.faults out.new) (spec.output_failed result ≡ true) }
@@ -129,6 +131,7 @@ fn restart<C: Cluster, O: Sink>(
     out: &mut O,
 ) -> Result<(), Halt>
     requires users { is_users event.now ≡ false }
+    requires run { RunsNow event.now }
     requires sound { IsSound (C.tells cluster.old) (C.ready cluster.old) (C.damage cluster.old) }
     requires ready { C.ready cluster.old ≡ true }
     ensures steps { (fits : History → Write → Bool) (limit : ℕ) (files : spec.Files)
@@ -160,12 +163,14 @@ pub(crate) fn run_event<C: Cluster, F: Folder, O: Sink>(
     requires ready { C.ready cluster.old ≡ true }
     requires sound { IsSound (C.tells cluster.old) (C.ready cluster.old) (C.damage cluster.old) }
     requires range { IsInRange event.now }
+    requires run { RunsNow event.now }
     ensures steps { spec.Steps (C.tells cluster.old) C.fits (C.limit cluster.old) (F.held folder.old) (C.history cluster.old) event.now (C.history cluster.new) (O.held out.old) (O.held out.new) result }
     ensures tells { C.tells cluster.new ≡ C.tells cluster.old }
     ensures limit { C.limit cluster.new ≡ C.limit cluster.old }
     ensures sound { IsSound (C.tells cluster.new) (C.ready cluster.new) (C.damage cluster.new) }
     ensures ready { OnOk result (C.ready cluster.new ≡ true) }
     ensures same { F.held folder.new ≡ F.held folder.old }
+    ensures untouched { is_of_folder event.now ≡ false → folder.new ≡ folder.old }
     ensures store { HasCause (C.faults cluster.old) (C.faults cluster.new) (spec.store_failed result ≡ true) }
     ensures folder { HasCause (F.faults folder.old) (F.faults folder.new) (spec.folder_failed result ≡ true) }
     ensures output { HasCause (O.faults out.old) (O.faults out.new) (spec.output_failed result ≡ true) }

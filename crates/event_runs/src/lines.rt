@@ -79,6 +79,12 @@ fn put_front(line: &mut Vec<u8>, event: &Event) -> Result<(), Memory>
             budget: _,
         } => put_text(line, b"retry ", namespace.as_bytes()),
         Event::Restart => put_text(line, b"restart", b""),
+        Event::Release { namespace } => put_text(line, b"release ", namespace.as_bytes()),
+        Event::Worker { .. }
+        | Event::Look { .. }
+        | Event::Act { .. }
+        | Event::Settle { .. }
+        | Event::Lease { .. } => put_text(line, b"", b""),
     }
 }
 

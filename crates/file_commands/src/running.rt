@@ -3,6 +3,7 @@ ghost use Rattle.std.specs.Prelude.{◌≡◌, ℕ, true, false, Result, Err, Al
 ghost use Rattle.std.specs.List.{list_any};
 ghost use Rattle.cluster_history.specs.History.{History};
 ghost use Rattle.event_script.specs.Ranges.{IsInRange};
+ghost use Rattle.event_script.specs.Running.{RunsNow};
 ghost use Rattle.folder_events.specs.Events.{is_of_folder};
 ghost use Rattle.olm_io.specs.Outside.{HasCause};
 ghost use Rattle.file_commands.specs.FileRuns.{FileRuns, disk_failed, fault_of, folder_failed, output_failed, was_opened};
@@ -42,11 +43,13 @@ fn run_on<D: Disk, F: Folder, O: Sink>(
     out: &mut O,
 ) -> (Result<(), RunFault>, D)
     requires ranges { All IsInRange events.now }
+    requires run { All RunsNow events.now }
     ensures runs { (found : Result History ℕ) × (left : Result History ℕ) × Opens (D.tells disk) (D.content disk) found × Opens (D.tells result.1) (D.content result.1) left
         × FileRuns (D.tells disk) (F.held folder.old) found events.now left (O.held out.old) (O.held out.new) result.0 }
     ensures unopened { was_opened result.0 ≡ false → (folder.new ≡ folder.old) × (out.new ≡ out.old) }
     ensures tells { D.tells result.1 ≡ D.tells disk }
     ensures same { F.held folder.new ≡ F.held folder.old }
+    ensures untouched { list_any is_of_folder events.now ≡ false → folder.new ≡ folder.old }
     ensures disk { HasCause (D.faults disk) (D.faults result.1) (disk_failed result.0 ≡ true) }
     ensures folder { HasCause (F.faults folder.old) (F.faults folder.new) (folder_failed result.0 ≡ true) }
     ensures output { HasCause (O.faults out.old) (O.faults out.new) (output_failed result.0 ≡ true) }
@@ -69,6 +72,7 @@ fn run_lent<'a, D: Disk, B: Borrow, F: Folder, O: Sink>(
     out: &mut O,
 ) -> (Result<(), RunFault>, Handle<'a, D>)
     requires ranges { All IsInRange events.now }
+    requires run { All RunsNow events.now }
     requires borrow { handle.disk.ghost_name ≡ B.name }
     ensures runs { (found : Result History ℕ) × (left : Result History ℕ) × Opens (D.tells handle.entry.disk.now) (D.content handle.entry.disk.now) found
         × Opens (D.tells result.1.disk.now) (D.content result.1.disk.now) left
@@ -76,6 +80,7 @@ fn run_lent<'a, D: Disk, B: Borrow, F: Folder, O: Sink>(
     ensures unopened { was_opened result.0 ≡ false → (folder.new ≡ folder.old) × (out.new ≡ out.old) }
     ensures tells { D.tells result.1.disk.now ≡ D.tells handle.entry.disk.now }
     ensures same { F.held folder.new ≡ F.held folder.old }
+    ensures untouched { list_any is_of_folder events.now ≡ false → folder.new ≡ folder.old }
     ensures disk { HasCause (D.faults handle.entry.disk.now) (D.faults result.1.disk.now) (disk_failed result.0 ≡ true) }
     ensures folder { HasCause (F.faults folder.old) (F.faults folder.new) (folder_failed result.0 ≡ true) }
     ensures output { HasCause (O.faults out.old) (O.faults out.new) (output_failed result.0 ≡ true) }
@@ -87,7 +92,8 @@ fn run_lent<'a, D: Disk, B: Borrow, F: Folder, O: Sink>(
 
 /// Runs the events over the store in the file of this disk. Where the disk tells what it holds, the history before is
 /// what the file stood for, and the one afterwards is what it stands for then: also after a failed call the file isn't
-/// damaged. Where no store is opened nothing is put, and folder and output stay as they are.
+/// damaged. Where no store is opened nothing is put, and folder and output stay as they are. Where no event is a
+/// `catalog` event the folder stays as it is.
 #[tactic(auto, using(crate::proofs::Catalogs::has_catalog))]
 pub fn run_file<D: Disk, F: Folder, O: Sink>(
     alloc: Global,
@@ -97,11 +103,13 @@ pub fn run_file<D: Disk, F: Folder, O: Sink>(
     out: &mut O,
 ) -> Result<(), RunFault>
     requires ranges { All IsInRange events.now }
+    requires run { All RunsNow events.now }
     ensures runs { (found : Result History ℕ) × (left : Result History ℕ) × Opens (D.tells disk.old) (D.content disk.old) found × Opens (D.tells disk.new) (D.content disk.new) left
         × FileRuns (D.tells disk.old) (F.held folder.old) found events.now left (O.held out.old) (O.held out.new) result }
     ensures unopened { was_opened result ≡ false → (folder.new ≡ folder.old) × (out.new ≡ out.old) }
     ensures tells { D.tells disk.new ≡ D.tells disk.old }
     ensures same { F.held folder.new ≡ F.held folder.old }
+    ensures untouched { list_any is_of_folder events.now ≡ false → folder.new ≡ folder.old }
     ensures disk { HasCause (D.faults disk.old) (D.faults disk.new) (disk_failed result ≡ true) }
     ensures folder { HasCause (F.faults folder.old) (F.faults folder.new) (folder_failed result ≡ true) }
     ensures catalog { folder_failed result ≡ true → list_any is_of_folder events.now ≡ true }

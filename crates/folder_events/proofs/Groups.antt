@@ -6,7 +6,7 @@ use Rattle.std.specs.Cmp.Derive.{both_true}
 use Rattle.std.proofs.lemmas.Bool.{and_parts, or_right, leb-true, le-leb}
 use Rattle.cluster_objects.specs.Keys.{same_text}
 use Rattle.olm_base.specs.Names.{is_group, is_name, is_name_byte}
-use Rattle.user_events.specs.Places.{is_place}
+use Rattle.cluster_objects.specs.Places.{is_place}
 
 pub group_place : (text : List ℕ) → is_group text ≡ true → is_place text ≡ true
 group_place [] is = refl

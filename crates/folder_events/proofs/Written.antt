@@ -22,12 +22,12 @@ use Rattle.fbc_read.specs.declared.bodies.BodyFault.{BodyFault}
 use Rattle.fbc_read.specs.declared.reading.ReadFault.{ReadFault}
 use Rattle.object_bodies.proofs.Reading.{read_then, same_ok}
 use Rattle.user_events.specs.Asked as user
-use Rattle.user_events.specs.Places.{deployment_key, plan_key, resolution_key}
+use Rattle.cluster_objects.specs.Places.{deployment_key, plan_key, resolution_key}
 use Rattle.user_events.specs.Wishes.{new_catalog}
 use Rattle.folder_events.specs.Catalogs.{catalog_after, catalog_of, or_refusal, unless_broken, valid_text}
 use Rattle.folder_events.specs.Laws.{IsValid, WritesValidCatalogs}
 use Rattle.folder_events.proofs.Lengths.{body_within}
-use Rattle.folder_events.proofs.Others.{by_apply, by_delete, by_approve, by_ready, by_retry}
+use Rattle.folder_events.proofs.Others.{by_apply, by_delete, by_approve, by_ready, by_release, by_retry}
 
 read_as : (found : Result Read ReadFault) (catalog : Catalog) → or_refusal found ≡ Ok catalog → (read : Read) × (found ≡ Ok read) × (read.catalog ≡ catalog)
 read_as (Ok read) catalog e = (read, refl, same_ok _ _ e)
@@ -75,4 +75,11 @@ writes_valid held h (event.Ready namespace name state) w asked object found is k
     absurd (apart w object found (by_ready h (deployment_key namespace name) state w asked) is kind)
 writes_valid held h (event.Retry namespace budget) w asked object found is kind =
     absurd (apart w object found (by_retry h (resolution_key namespace) budget w asked) is kind)
+writes_valid held h (event.Worker role namespace) w asked object found is kind = absurd asked
+writes_valid held h (event.Look worker) w asked object found is kind = absurd asked
+writes_valid held h (event.Act worker) w asked object found is kind = absurd asked
+writes_valid held h (event.Settle namespace turns) w asked object found is kind = absurd asked
 writes_valid held h event.Restart w asked object found is kind = absurd asked
+writes_valid held h (event.Release namespace) w asked object found is kind =
+    absurd (apart w object found (by_release h namespace w asked) is kind)
+writes_valid held h (event.Lease worker now keep) w asked object found is kind = absurd asked

@@ -11,13 +11,27 @@ use event_script::Event;
 use object_store::Cluster;
 use olm_folder::Folder;
 use std::alloc::Global;
-use user_events::{UserAnswer, apply, approve, delete, ready, retry};
+use user_events::{UserAnswer, apply, approve, delete, ready, release, retry};
 
 /// Whether it is an event of a user.
 pub fn is_users(event: &Event) -> bool
     ensures { result ≡ spec.is_users event.now }
 {
-    !matches!(event, Event::Restart)
+    match event {
+        Event::Apply { .. }
+        | Event::Delete { .. }
+        | Event::Approve { .. }
+        | Event::Catalog { .. }
+        | Event::Ready { .. }
+        | Event::Retry { .. }
+        | Event::Release { .. } => true,
+        Event::Worker { .. }
+        | Event::Look { .. }
+        | Event::Act { .. }
+        | Event::Settle { .. }
+        | Event::Restart
+        | Event::Lease { .. } => false,
+    }
 }
 
 /// Carries out an event of a user.
@@ -67,6 +81,12 @@ pub fn user_event<C: Cluster, F: Folder>(
             state,
         } => ready(alloc, namespace, name, *state, cluster),
         Event::Retry { namespace, budget } => retry(alloc, namespace, *budget, cluster),
-        Event::Restart => unreachable!(),
+        Event::Release { namespace } => release(alloc, namespace, cluster),
+        Event::Worker { .. }
+        | Event::Look { .. }
+        | Event::Act { .. }
+        | Event::Settle { .. }
+        | Event::Restart
+        | Event::Lease { .. } => unreachable!(),
     }
 }

@@ -17,10 +17,12 @@ pub counts_not : {A : Type 0} (b : Bool) (found : Option A) (x : A) → b ≡ fa
 counts_not true found x is e = cc
 counts_not false found x is e = none_is_some x e
 
-pub none_of : (a b c : Bool) → (a || b || c) ≡ false → (a ≡ false) × (b ≡ false) × (c ≡ false)
-none_of true b c e = absurd cc
-none_of false true c e = absurd cc
-none_of false false c e = (refl, refl, e)
+pub none_of : (a b c d e : Bool) → (a || b || c || d || e) ≡ false → (a ≡ false) × (b ≡ false) × (c ≡ false) × (d ≡ false) × (e ≡ false)
+none_of true b c d e is = absurd cc
+none_of false true c d e is = absurd cc
+none_of false false true d e is = absurd cc
+none_of false false false true e is = absurd cc
+none_of false false false false e is = (refl, refl, refl, refl, is)
 
 pub true_or_false : (b : Bool) → b ≡ true → b ≡ false → ⊥
 true_or_false b is isnt = cc

@@ -1,7 +1,7 @@
 -- What each write leaves at its own key, and at every key.
 use Rattle.std.specs.Prelude.{ℤ}
 use Rattle.std.proofs.Common.{◌≡◌, false, List, ℕ, Option, Some, None, Ok, refl, sym, ap, ◌∙◌, subst, inl, inr}
-use Rattle.cluster_objects.specs.Kinds.{as_catalog, as_plan, as_resolution, is_catalog_key, is_csv_key, is_plan_key, is_resolution_key, is_subscription_key, csv_at, plan_at, subscription_at}
+use Rattle.cluster_objects.specs.Kinds.{as_catalog, as_plan, as_resolution, is_catalog_key, is_claims_key, is_csv_key, is_lease_key, is_plan_key, is_resolution_key, is_subscription_key, csv_at, plan_at, subscription_at}
 use Rattle.cluster_objects.specs.declared.keys.Key.{Key}
 use Rattle.cluster_objects.specs.declared.objects.Object.{Object}
 use Rattle.cluster_objects.specs.declared.objects.Status.{Status}
@@ -21,14 +21,14 @@ use Rattle.lawful_history.proofs.Allowing.{as_plan-status}
 use Rattle.lawful_history.proofs.Slots.{same_or_other}
 use Rattle.object_bodies.specs.Heads.{is_forbidden}
 use Rattle.object_bodies.specs.Laws.{IsNewAt}
-use Rattle.user_events.specs.Places.{catalog_key, plan_key, deployment_key, resolution_key}
+use Rattle.cluster_objects.specs.Places.{catalog_key, claims_key, plan_key, deployment_key, resolution_key}
 use Rattle.user_events.specs.Wishes.{applied, kept_csv, kept_subscription, new_catalog, written}
 use Rattle.folder_events.specs.Events.{Asks}
 use Rattle.folder_events.specs.Laws.{IsValid}
 use Rattle.folder_events.proofs.Written.{writes_valid}
 use Rattle.lawful_events.specs.Keeps.{KeepsPlan, KeepsResolution, KeepsCatalog}
 use Rattle.lawful_events.proofs.Chains.{counts, counts_not, none_is_some, none_of, some_is}
-use Rattle.lawful_events.proofs.Written.{applied_is, deleted_is, Approval, approved_is, readied_is, Revival, retried_is, catalog_is}
+use Rattle.lawful_events.proofs.Written.{applied_is, deleted_is, Approval, approved_is, readied_is, Releasing, released_is, Revival, retried_is, catalog_is}
 
 -- what is kept of whatever stands at a key
 pub record Keeps (key : Key) (before now : Option Object) : Type 0 where
@@ -79,6 +79,10 @@ applied_phase body key old seen (status.Csv c) fresh x is =
 applied_phase body key old seen (status.Deployment r) fresh x is = absurd (none_is_some x (counts (is_csv_key key) None x is))
 applied_phase body key old seen (status.Plan p) fresh x is = absurd fresh
 applied_phase body key old seen (status.Resolution r) fresh x is = absurd fresh
+applied_phase body key old seen (status.Strategy s) fresh x is = absurd (none_is_some x (counts (is_csv_key key) None x is))
+applied_phase body key old seen (status.Group g) fresh x is = absurd (none_is_some x (counts (is_csv_key key) None x is))
+applied_phase body key old seen (status.Claims c) fresh x is = absurd fresh
+applied_phase body key old seen (status.Lease l) fresh x is = absurd fresh
 
 subscription_state : (found : Option SubscriptionStatus) (new x : SubscriptionStatus) → new.state ≡ sub.Nothing → kept_subscription found new ≡ x → HasStateOf x found
 subscription_state None new x fresh is = sym (ap (λ (s : SubscriptionStatus). s.state) is) ∙ fresh
@@ -93,10 +97,14 @@ applied_state body key old seen (status.Csv c) fresh x is = absurd (none_is_some
 applied_state body key old seen (status.Deployment r) fresh x is = absurd (none_is_some x (counts (is_subscription_key key) None x is))
 applied_state body key old seen (status.Plan p) fresh x is = absurd fresh
 applied_state body key old seen (status.Resolution r) fresh x is = absurd fresh
+applied_state body key old seen (status.Strategy s) fresh x is = absurd (none_is_some x (counts (is_subscription_key key) None x is))
+applied_state body key old seen (status.Group g) fresh x is = absurd (none_is_some x (counts (is_subscription_key key) None x is))
+applied_state body key old seen (status.Claims c) fresh x is = absurd fresh
+applied_state body key old seen (status.Lease l) fresh x is = absurd fresh
 
 applied_keeps : (body : List ℕ) (key : Key) (old : Option Object) (seen : ℕ) (new : Status) → is_forbidden key ≡ false → IsNewAt key new → Keeps key old (Some (applied body new key old seen))
 applied_keeps body key old seen new free fresh =
-    let none = none_of (is_plan_key key) (is_catalog_key key) (is_resolution_key key) free in
+    let none = none_of (is_plan_key key) (is_catalog_key key) (is_resolution_key key) (is_claims_key key) (is_lease_key key) free in
     let object = applied body new key old seen in
     record {
       phase = applied_phase body key old seen new fresh;
@@ -142,6 +150,18 @@ ready_keeps namespace name old body state owner seen = record {
   catalog = λ c is. absurd (none_is_some c is);
 }
 
+-- ---- release
+
+releasing_keeps : (old : Option Object) (seen : ℕ) (new : Option Object) → Releasing old seen new → Keeps claims_key old new
+releasing_keeps old seen new r =
+    subst (λ (o : Option Object). Keeps claims_key old o) r.made (record {
+      phase = λ x is. absurd (none_is_some x is);
+      state = λ x is. absurd (none_is_some x is);
+      plan = λ q is. absurd (none_is_some q is);
+      resolution = λ was is. absurd (none_is_some was is);
+      catalog = λ c is. absurd (none_is_some c is);
+    })
+
 -- ---- retry
 
 revival_keeps : (namespace : List ℕ) (old : Option Object) (seen : ℕ) (new : Object) → Revival (resolution_key namespace) old seen new → Keeps (resolution_key namespace) old (Some new)
@@ -174,7 +194,7 @@ kept_here files h (event.Apply body) w asks =
 kept_here files h (event.Delete group kind namespace name) w asks =
     let key : Key = record { group = group; kind = kind; namespace = namespace; name = name } in
     let is = deleted_is h key w asks in
-    subst (λ (x : Write). Keeps x.key (slot h x.key).object x.object) is.1 (removed_keeps key (slot h key).object is.0)
+    subst (λ (x : Write). Keeps x.key (slot h x.key).object x.object) is.write (removed_keeps key (slot h key).object is.resolution)
 kept_here files h (event.Approve namespace name) w asks =
     let is = approved_is h namespace name w asks in
     subst (λ (x : Write). Keeps x.key (slot h x.key).object x.object) is.write (approval_keeps namespace name (slot h (plan_key namespace name)).object (position h) is.new is.approval)
@@ -188,7 +208,15 @@ kept_here files h (event.Ready namespace name state) w asks =
 kept_here files h (event.Retry namespace budget) w asks =
     let is = retried_is h namespace budget w asks in
     subst (λ (x : Write). Keeps x.key (slot h x.key).object x.object) is.write (revival_keeps namespace (slot h (resolution_key namespace)).object (position h) is.new is.revival)
+kept_here files h (event.Worker role namespace) w asks = absurd asks
+kept_here files h (event.Look worker) w asks = absurd asks
+kept_here files h (event.Act worker) w asks = absurd asks
+kept_here files h (event.Settle namespace turns) w asks = absurd asks
 kept_here files h event.Restart w asks = absurd asks
+kept_here files h (event.Release namespace) w asks =
+    let is = released_is h namespace w asks in
+    subst (λ (x : Write). Keeps x.key (slot h x.key).object x.object) is.write (releasing_keeps (slot h claims_key).object (position h) is.new is.releasing)
+kept_here files h (event.Lease worker now keep) w asks = absurd asks
 
 -- a write changes the slot of its key, and no other
 pub kept_everywhere : (h : History) (w : Write) → Keeps w.key (slot h w.key).object w.object → (key : Key) → Keeps key (slot h key).object (slot (After w h) key).object

@@ -37,7 +37,13 @@ some_asks files h (event.Approve namespace name) asked is = is
 some_asks files h (event.Catalog namespace name path priority) asked (body, holds, is) = (body, some_body files path body holds, is)
 some_asks files h (event.Ready namespace name state) asked is = is
 some_asks files h (event.Retry namespace budget) asked is = is
+some_asks files h (event.Worker role namespace) asked is = is
+some_asks files h (event.Look worker) asked is = is
+some_asks files h (event.Act worker) asked is = is
+some_asks files h (event.Settle namespace turns) asked is = is
 some_asks files h event.Restart asked is = is
+some_asks files h (event.Release namespace) asked is = is
+some_asks files h (event.Lease worker now keep) asked is = is
 
 -- ---- one event: the history stays, or goes on by one write
 

@@ -1,8 +1,10 @@
 -- The write of each event, where it asks for one.
 use Rattle.std.proofs.Common.{◌≡◌, Bool, true, false, cond, List, [], ℕ, Option, Some, None, Result, Ok, Err, refl, sym, ap, ◌∙◌, subst, codes}
 use Rattle.std.specs.Prelude.{ℤ, pos}
+use Rattle.std.specs.List.{list_any}
 use Rattle.std.specs.Option.{unwrap_or}
-use Rattle.cluster_objects.specs.Kinds.{as_plan, is_plan_key, is_resolution_key, plan_at, deployment_at, resolution_at}
+use Rattle.cluster_objects.specs.Kinds.{as_plan, is_claims_key, is_lease_key, is_plan_key, is_resolution_key, claims_at, plan_at, deployment_at, resolution_at}
+use Rattle.cluster_objects.specs.declared.groups.ClaimsStatus.{ClaimsStatus}
 use Rattle.cluster_objects.specs.declared.keys.Key.{Key}
 use Rattle.cluster_objects.specs.declared.objects.Object.{Object}
 use Rattle.cluster_objects.specs.declared.objects.Status.{Status}
@@ -17,11 +19,11 @@ use Rattle.object_bodies.specs.Heads.{is_forbidden}
 use Rattle.object_bodies.specs.Laws.{IsNewAt}
 use Rattle.object_bodies.specs.declared.faults.ObjectFault.{ObjectFault}
 use Rattle.object_bodies.proofs.Whole.{objects_are_new}
-use Rattle.user_events.specs.Asked.{user_write, asked_at, apply_wish, apply, delete, approve, ready, retry}
+use Rattle.user_events.specs.Asked.{user_write, asked_at, apply_wish, apply, delete, approve, ready, release, retry}
 use Rattle.user_events.specs.Asked as user
-use Rattle.user_events.specs.Places.{catalog_key, plan_key, deployment_key, resolution_key}
+use Rattle.cluster_objects.specs.Places.{catalog_key, claims_key, plan_key, deployment_key, resolution_key}
 use Rattle.user_events.specs.Reasons.{refused}
-use Rattle.user_events.specs.Wishes.{with_status, applied, removed, deleted, is_waiting, approved_plan, approved, made_ready, readied, first_resolution, tried_again, retried, written, new_catalog}
+use Rattle.user_events.specs.Wishes.{with_status, applied, removed, deleted, is_waiting, approved_plan, approved, made_ready, readied, is_claim_of, released, released_claims, without_claims_of, first_resolution, tried_again, retried, written, new_catalog}
 use Rattle.user_events.specs.declared.refusals.Refusal.{Refusal}
 use Rattle.user_events.specs.declared.wishes.Wish.{Wish}
 use Rattle.user_events.specs.declared.wishes.Wish.TheVariants as wishes
@@ -64,16 +66,31 @@ applied_is h body w e =
 
 -- ---- delete
 
-removed_is : (b : Bool) (old new : Option Object) → cond {A = Result (Option Object) Refusal} b (refused (codes "forbidden Resolution")) (removed old) ≡ Ok new → (b ≡ false) × (new ≡ None)
-removed_is true old new e = absurd cc
-removed_is false None new e = absurd cc
-removed_is false (Some object) new e = (refl, sym (ok_is _ _ e))
+removed_is : (a b c : Bool) (old new : Option Object)
+    → cond {A = Result (Option Object) Refusal} a (refused (codes "forbidden Resolution")) (cond b (refused (codes "forbidden Claims")) (cond c (refused (codes "forbidden Lease")) (removed old))) ≡ Ok new
+    → (a ≡ false) × (b ≡ false) × (c ≡ false) × (new ≡ None)
+removed_is true b c old new e = absurd cc
+removed_is false true c old new e = absurd cc
+removed_is false false true old new e = absurd cc
+removed_is false false false None new e = absurd cc
+removed_is false false false (Some object) new e = (refl, refl, refl, sym (ok_is _ _ e))
 
-pub deleted_is : (h : History) (key : Key) (w : Write) → delete h key ≡ Ok w → (is_resolution_key key ≡ false) × (write_at h key None ≡ w)
+pub record IsDeleted (h : History) (key : Key) (w : Write) : Type 0 where
+  pub resolution : is_resolution_key key ≡ false
+  pub claims : is_claims_key key ≡ false
+  pub lease : is_lease_key key ≡ false
+  pub write : write_at h key None ≡ w
+
+pub deleted_is : (h : History) (key : Key) (w : Write) → delete h key ≡ Ok w → IsDeleted h key w
 deleted_is h key w e =
     let found = then_ok (deleted key (slot h key).object) (λ object. Ok (write_at h key object)) w e in
-    let gone = removed_is (is_resolution_key key) (slot h key).object found.0 found.1 in
-    (gone.0, ok_is _ _ (subst (λ (o : Option Object). ◌≡◌ {A = Result Write Refusal} (Ok (write_at h key o)) (Ok w)) gone.1 found.2))
+    let gone = removed_is (is_resolution_key key) (is_claims_key key) (is_lease_key key) (slot h key).object found.0 found.1 in
+    record {
+      resolution = gone.0;
+      claims = gone.1;
+      lease = gone.2;
+      write = ok_is _ _ (subst (λ (o : Option Object). ◌≡◌ {A = Result Write Refusal} (Ok (write_at h key o)) (Ok w)) gone.3 found.2);
+    }
 
 -- ---- approve
 
@@ -85,6 +102,10 @@ plan_status object (status.Csv x) plan e = absurd (none_is_some plan e)
 plan_status object (status.Deployment x) plan e = absurd (none_is_some plan e)
 plan_status object (status.Plan x) plan e = ap status.Plan (some_is x plan e)
 plan_status object (status.Resolution x) plan e = absurd (none_is_some plan e)
+plan_status object (status.Strategy x) plan e = absurd (none_is_some plan e)
+plan_status object (status.Group x) plan e = absurd (none_is_some plan e)
+plan_status object (status.Claims x) plan e = absurd (none_is_some plan e)
+plan_status object (status.Lease x) plan e = absurd (none_is_some plan e)
 
 pub record Approval (old : Option Object) (seen : ℕ) (new : Option Object) : Type 0 where
   pub object : Object
@@ -135,6 +156,37 @@ readied_is h namespace name state w e =
     let found = then_ok (readied state key (slot h key).object (position h)) (λ object. Ok (write_at h key object)) w e in
     let made = ready_of key (slot h key).object state (position h) found.0 found.1 in
     (made.0, ap (λ (o : Option Object). write_at h key o) made.1 ∙ ok_is _ _ found.2)
+
+-- ---- release
+
+-- claims that were there, with fewer entries
+pub record Releasing (old : Option Object) (seen : ℕ) (new : Option Object) : Type 0 where
+  pub object : Object
+  pub claims : ClaimsStatus
+  pub there : old ≡ Some object
+  pub made : Some (with_status object (status.Claims claims) seen) ≡ new
+
+released_by : (namespace : List ℕ) (object : Object) (seen : ℕ) (found : Option ClaimsStatus) (new : Option Object) → released_claims namespace object seen found ≡ Ok new → Releasing (Some object) seen new
+released_by namespace object seen None new e = absurd cc
+released_by namespace object seen (Some claims) new e = by (list_any (is_claim_of namespace) claims.entries) e
+  where
+    by : (b : Bool) → cond {A = Result (Option Object) Refusal} b (Ok (Some (with_status object (status.Claims (without_claims_of namespace claims)) seen))) (refused (codes "absent")) ≡ Ok new → Releasing (Some object) seen new
+    by true e = record { object = object; claims = without_claims_of namespace claims; there = refl; made = ok_is _ _ e }
+    by false e = absurd cc
+
+released_of : (namespace : List ℕ) (key : Key) (old : Option Object) (seen : ℕ) (new : Option Object) → released namespace key old seen ≡ Ok new → Releasing old seen new
+released_of namespace key None seen new e = absurd cc
+released_of namespace key (Some object) seen new e = released_by namespace object seen (claims_at key (Some object)) new e
+
+pub record IsReleased (h : History) (w : Write) : Type 0 where
+  pub new : Option Object
+  pub releasing : Releasing (slot h claims_key).object (position h) new
+  pub write : write_at h claims_key new ≡ w
+
+pub released_is : (h : History) (namespace : List ℕ) (w : Write) → release h namespace ≡ Ok w → IsReleased h w
+released_is h namespace w e =
+    let found = then_ok (released namespace claims_key (slot h claims_key).object (position h)) (λ object. Ok (write_at h claims_key object)) w e in
+    record { new = found.0; releasing = released_of namespace claims_key (slot h claims_key).object (position h) found.0 found.1; write = ok_is _ _ found.2 }
 
 -- ---- retry
 

@@ -1,18 +1,20 @@
 -- What the input gives of events, and the runs of `run`.
-use Rattle.std.proofs.Common.{◌≡◌, ℕ, List, [], Bool, true, false, refl, sym, ap, subst, Option, Some, Result, Ok, Err}
+use Rattle.std.proofs.Common.{◌≡◌, ◌∙◌, ℕ, List, [], Bool, true, false, refl, sym, ap, subst, Option, Some, Result, Ok, Err}
 use Rattle.cluster_history.specs.History.{History}
+use Rattle.std.specs.List.{list_any}
 use Rattle.event_script.specs.Script.{events_of}
 use Rattle.event_script.specs.declared.events.Event.{Event}
 use Rattle.file_commands.specs.FileRuns.{FileRuns}
 use Rattle.file_commands.specs.Opens.{Opens}
 use Rattle.file_commands.specs.declared.faults.RunFault.{RunFault}
+use Rattle.folder_events.specs.Events.{is_of_folder}
 use Rattle.json_fields.specs.Faults.{and_then}
 use Rattle.olm_base.specs.Outcome.{Gives}
 use Rattle.olm_io.specs.Outside.{IsTold}
 use Rattle.olm_cli.specs.declared.causes.Cause.{Cause}
 use Rattle.olm_cli.specs.Causes.{is_free}
 use Rattle.olm_cli.specs.Places.{within_limit}
-use Rattle.olm_cli.specs.Running.{HoldsScript, RunRuns, Stops, Goes, is_of_script, or_event_cause, run_end, script_of}
+use Rattle.olm_cli.specs.Running.{AsksNoCatalog, HoldsScript, RunRuns, Stops, Goes, asks_catalog, is_of_script, or_event_cause, run_end, script_of}
 use Rattle.olm_cli.specs.Worlds.{World, IsStill}
 
 abbrev after_reading : Result (List ℕ) Cause → Result (List Event) Cause
@@ -43,3 +45,9 @@ pub run_goes : (old new : World) (events : List Event) (end : Option Cause) (scr
     → FileRuns old.tells old.files found events left old.out new.out ended → end ≡ run_end ended → RunRuns old new end
 run_goes old new events end script found left ended held e opens leaves runs same =
     subst (λ e. RunRuns old new e) (sym same) (Goes events found left ended (subst (λ s. HoldsScript old.left s) e held) opens leaves runs)
+
+-- the events that were read, where the input asks for no `catalog` event
+pub none_asked : (left : Option (List ℕ)) (events : List Event)
+    → (script : Result (List Event) Cause) × HoldsScript left script × Gives is_free script (Ok events) → AsksNoCatalog left → list_any is_of_folder events ≡ false
+none_asked left events (script, (text, told, same), given) none =
+    ap asks_catalog (sym given) ∙ ap asks_catalog same ∙ none text told

@@ -51,6 +51,16 @@ reads_folder (Some Run) = true
 reads_folder (Some (Show namespace)) = false
 reads_folder (Some (Decide budget namespace)) = false
 
+-- the command that applies events
+abbrev pub is_run : Option Command → Bool
+is_run None = false
+is_run (Some Help) = false
+is_run (Some (OnCatalog place task)) = false
+is_run (Some (Verify path package_name channel)) = false
+is_run (Some Run) = true
+is_run (Some (Show namespace)) = false
+is_run (Some (Decide budget namespace)) = false
+
 abbrev pub reads_input : Option Command → Bool
 reads_input None = false
 reads_input (Some Help) = false

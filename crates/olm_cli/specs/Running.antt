@@ -1,4 +1,5 @@
 -- What `run` comes to: all events of the input are applied, from the history on for which the cluster file stands.
+use Rattle.std.specs.List.{list_any}
 use Rattle.std.specs.Prelude.{◌≡◌, ℕ, Bool, true, false, List, Option, Some, None, Result, Ok, Err}
 use Rattle.cluster_history.specs.History.{History}
 use Rattle.event_runs.specs.declared.halts.Halt.{Halt}
@@ -11,6 +12,7 @@ use Rattle.file_commands.specs.FileRuns.{FileRuns}
 use Rattle.file_commands.specs.Opens.{Opens}
 use Rattle.file_commands.specs.declared.faults.RunFault.{RunFault}
 use Rattle.file_commands.specs.declared.faults.RunFault.TheVariants as run
+use Rattle.folder_events.specs.Events.{is_of_folder}
 use Rattle.json_fields.specs.Faults.{and_then}
 use Rattle.olm_base.specs.Outcome.{Gives}
 use Rattle.olm_io.specs.Outside.{IsTold}
@@ -38,6 +40,15 @@ script_of text = and_then (within_limit text) (λ input. or_event_cause (events_
 
 abbrev pub HoldsScript : Option (List ℕ) → Result (List Event) Cause → Type 0
 HoldsScript left script = (text : List ℕ) × IsTold left text × (script ≡ script_of text)
+
+-- a script that was read asks for a `catalog` event
+abbrev pub asks_catalog : Result (List Event) Cause → Bool
+asks_catalog (Ok events) = list_any is_of_folder events
+asks_catalog (Err cause) = false
+
+-- The script of the input asks for none: where the input tells what it holds it is that of this text, and else none of any text may.
+abbrev pub AsksNoCatalog : Option (List ℕ) → Type 0
+AsksNoCatalog left = (text : List ℕ) → IsTold left text → asks_catalog (script_of text) ≡ false
 
 -- may come before the file is opened
 abbrev pub is_of_script : Cause → Bool

@@ -9,6 +9,7 @@ ghost use Rattle.olm_cli.specs.Causes.{HasRisen, is_after_reading, is_answered, 
 ghost use Rattle.olm_cli.specs.Commands as spec;
 ghost use Rattle.olm_cli.specs.Lines.{Tells};
 ghost use Rattle.olm_cli.specs.Places.{is_folder, is_input};
+ghost use Rattle.olm_cli.specs.Running.{AsksNoCatalog};
 ghost use Rattle.olm_cli.specs.Runs.{Comes};
 ghost use Rattle.olm_cli.specs.Words.{command_of, place_view, task_view};
 ghost use Rattle.olm_cli.specs.Worlds.{world};
@@ -95,6 +96,7 @@ fn run<F: Folder, S: Source, D: Disk, O: Sink>(
     ensures of_input { result ≡ Some Cause.InputFailed → spec.reads_input (command_of words.now) ≡ true }
     ensures of_disk { result ≡ Some Cause.DiskFailed → spec.opens_file (command_of words.now) ≡ true }
     ensures untouched_folder { spec.reads_folder (command_of words.now) ≡ false → folder.new ≡ folder.old }
+    ensures untouched_by_run { spec.is_run (command_of words.now) ≡ true → AsksNoCatalog (S.left input.old) → folder.new ≡ folder.old }
     ensures untouched_input { spec.reads_input (command_of words.now) ≡ false → input.new ≡ input.old }
     ensures untouched_disk { spec.opens_file (command_of words.now) ≡ false → disk.new ≡ disk.old }
     ensures end { is_answered (status_of result) ≡ true → spec.reads_input (command_of words.now) ≡ true → IsAtEnd (S.left input.new) }
@@ -138,6 +140,7 @@ pub fn olmctl<F: Folder, S: Source, D: Disk, O: Sink, E: Sink>(
     ensures same { F.held folder.new ≡ F.held folder.old }
     ensures tells { D.tells disk.new ≡ D.tells disk.old }
     ensures untouched_folder { spec.reads_folder (command_of words.now) ≡ false → folder.new ≡ folder.old }
+    ensures untouched_by_run { spec.is_run (command_of words.now) ≡ true → AsksNoCatalog (S.left input.old) → folder.new ≡ folder.old }
     ensures untouched_input { spec.reads_input (command_of words.now) ≡ false → input.new ≡ input.old }
     ensures untouched_disk { spec.opens_file (command_of words.now) ≡ false → disk.new ≡ disk.old }
     ensures end { is_answered result ≡ true → spec.reads_input (command_of words.now) ≡ true → IsAtEnd (S.left input.new) }

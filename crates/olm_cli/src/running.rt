@@ -1,15 +1,18 @@
 // The command `run`.
-ghost use Rattle.std.specs.Prelude.{List, ℕ, ◌≡◌, ◌≢◌, ◌≤◌, length, true, All, Some, Err, IfOk, IfErr, OnOk, IsErrOf};
+ghost use Rattle.std.specs.List.{list_any};
+ghost use Rattle.std.specs.Prelude.{List, ℕ, ◌≡◌, ◌≢◌, ◌≤◌, length, true, false, All, Some, Err, IfOk, IfErr, OnOk, IsErrOf};
 ghost use Rattle.std.specs.declared.result.Result.{Result};
 ghost use Rattle.std.specs.Io.KnownBytes.{IsAtEnd};
 ghost use Rattle.cluster_history.specs.History.{History};
 ghost use Rattle.event_script.specs.Ranges.{IsInRange};
+ghost use Rattle.event_script.specs.Running.{RunsNow};
 ghost use Rattle.event_script.specs.Script.{events_of};
 ghost use Rattle.event_script.specs.declared.events.Event.{Event};
 ghost use Rattle.fbc_read.specs.Bodies.{input_limit};
 ghost use Rattle.file_commands.specs.FileRuns.{FileRuns, disk_failed, folder_failed, output_failed};
 ghost use Rattle.file_commands.specs.Opens.{Opens};
 ghost use Rattle.file_commands.specs.declared.faults.RunFault.{RunFault};
+ghost use Rattle.folder_events.specs.Events.{is_of_folder};
 ghost use Rattle.olm_base.specs.Outcome.{Gives};
 ghost use Rattle.olm_io.specs.Outside.{HasCause};
 ghost use Rattle.olm_cli.specs.declared.causes.Cause.{Cause};
@@ -47,6 +50,7 @@ fn text_events(alloc: Global, text: &[u8]) -> Result<Many<Event>, Cause>
     requires within { length text.now ≤ input_limit }
     ensures answer { Gives is_free (spec.or_event_cause (events_of text.now)) result }
     ensures ranges { IfOk result (λ events. All IsInRange events) }
+    ensures run { IfOk result (λ events. All RunsNow events) }
     ensures kind { IfErr result (λ cause. spec.is_of_script cause ≡ true) }
     ensures input { IfErr result (λ cause. cause ≢ Cause.InputFailed) }
 {
@@ -60,6 +64,7 @@ fn text_events(alloc: Global, text: &[u8]) -> Result<Many<Event>, Cause>
 fn read_script<S: Source>(alloc: Global, input: &mut S) -> Result<Many<Event>, Cause>
     ensures answer { (script : Result (List Event) Cause) × spec.HoldsScript (S.left input.old) script × Gives is_free script result }
     ensures ranges { IfOk result (λ events. All IsInRange events) }
+    ensures run { IfOk result (λ events. All RunsNow events) }
     ensures kind { IfErr result (λ cause. spec.is_of_script cause ≡ true) }
     ensures cause { HasCause (S.faults input.old) (S.faults input.new) (IsErrOf result Cause.InputFailed) }
     ensures end { OnOk result (IsAtEnd (S.left input.new)) }
@@ -115,9 +120,11 @@ fn apply_script<F: Folder, D: Disk, O: Sink>(
     out: &mut O,
 ) -> Option<Cause>
     requires ranges { All IsInRange events.now }
+    requires run { All RunsNow events.now }
     ensures run { (found left : Result History ℕ) × (ended : Result Unit RunFault) × Opens (D.tells disk.old) (D.content disk.old) found × Opens (D.tells disk.new) (D.content disk.new) left
         × FileRuns (D.tells disk.old) (F.held folder.old) found events.now left (O.held out.old) (O.held out.new) ended × (result ≡ spec.run_end ended) }
     ensures same { F.held folder.new ≡ F.held folder.old }
+    ensures untouched_folder { list_any is_of_folder events.now ≡ false → folder.new ≡ folder.old }
     ensures tells { D.tells disk.new ≡ D.tells disk.old }
     ensures words { result ≢ Some Cause.BadWords }
     ensures input { result ≢ Some Cause.InputFailed }
@@ -129,7 +136,8 @@ fn apply_script<F: Folder, D: Disk, O: Sink>(
     run_end(ended)
 }
 
-/// Reads all events of the input, opens the cluster file, and applies the events to it.
+/// Reads all events of the input, opens the cluster file, and applies the events to it. Where none of them is a
+/// `catalog` event the folder stays as it was.
 pub fn run_script<F: Folder, S: Source, D: Disk, O: Sink>(
     alloc: Global,
     folder: &mut F,
@@ -141,6 +149,7 @@ pub fn run_script<F: Folder, S: Source, D: Disk, O: Sink>(
         (world (F.held folder.old) (S.left input.old) (D.tells disk.old) (D.content disk.old) (O.held out.old))
         (world (F.held folder.new) (S.left input.new) (D.tells disk.new) (D.content disk.new) (O.held out.new)) result }
     ensures same { F.held folder.new ≡ F.held folder.old }
+    ensures untouched_folder { spec.AsksNoCatalog (S.left input.old) → folder.new ≡ folder.old }
     ensures tells { D.tells disk.new ≡ D.tells disk.old }
     ensures words { result ≢ Some Cause.BadWords }
     ensures folder { HasCause (F.faults folder.old) (F.faults folder.new) (result ≡ Some Cause.FolderFailed) }

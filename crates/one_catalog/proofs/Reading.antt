@@ -15,7 +15,7 @@ use Rattle.fbc_read.specs.Catalogs.{Read, reading}
 use Rattle.fbc_read.specs.declared.reading.ReadFault.{ReadFault}
 use Rattle.folder_events.specs.Catalogs.{or_refusal, unless_broken, valid_text}
 use Rattle.folder_events.specs.Laws.{IsValid}
-use Rattle.view_basis.specs.Bodies.{body_limit, catalog_of, valid_catalog}
+use Rattle.view_basis.specs.Bodies.{catalog_of, valid_catalog}
 use Rattle.one_catalog.specs.Catalogs.{IsCatalogOf, is_valid_catalog}
 
 -- what was read, and breaks no rule
@@ -37,14 +37,14 @@ within_limit body false catalog h = absurd (let bad : None ≡ Some catalog = h 
 pub of_view : (body : List ℕ) (catalog : Catalog) → valid_catalog body ≡ Some catalog → IsCatalogOf body catalog
 unfolding valid_catalog
 of_view body catalog h =
-    let parts = within_limit body (nat_le (length body) body_limit) catalog h in
+    let parts = within_limit body (nat_le (length body) input_limit) catalog h in
     let found = held (reading nothing 0 (blobs body)) catalog parts.1 in
     (record { within = leb-true (length body) input_limit parts.0; read = found.0; is_read = found.1; breaks_none = found.2 }, found.3)
 
 pub of_event : (body : List ℕ) (valid : IsValid body) → valid_catalog body ≡ Some valid.read.catalog
 unfolding valid_catalog
 of_event body valid =
-    ap (λ b. cond {A = Option Catalog} b (catalog_of body) None) (le-leb (length body) body_limit valid.within)
+    ap (λ b. cond {A = Option Catalog} b (catalog_of body) None) (le-leb (length body) input_limit valid.within)
     ∙ ap (λ (r : Result Read ReadFault). option_and_then (λ (x : Read). result_ok (checked x.catalog)) (result_ok r)) valid.is_read
     ∙ ap (λ (faults : List CheckFault). result_ok (by_faults valid.read.catalog faults)) valid.breaks_none
 

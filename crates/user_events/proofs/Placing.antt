@@ -11,18 +11,17 @@ use Rattle.olm_base.specs.declared.fields.FieldKind.TheVariants.{BadName}
 use Rattle.json_fields.specs.declared.fault.Fault.{Fault}
 use Rattle.json_fields.specs.Faults.{and_then, here, below, key_step}
 use Rattle.json_fields.specs.Values.{as_fields, as_opt_name, some_name, opt_name_at}
-use Rattle.cluster_objects.specs.Kinds.{status_of}
 use Rattle.cluster_objects.specs.declared.keys.Key.{Key}
 use Rattle.cluster_objects.specs.declared.objects.Status.{Status}
 use Rattle.object_bodies.specs.declared.faults.ObjectFault.{ObjectFault}
 use Rattle.object_bodies.specs.Bodies.{value_of, user_object, user_value, user_parts}
 use Rattle.object_bodies.specs.Faults.{told, bad_field}
 use Rattle.object_bodies.specs.Fields.{fields_at}
-use Rattle.object_bodies.specs.Heads.{allowed_key, is_global, namespace_at, or_default, own_namespace, placed}
-use Rattle.object_bodies.specs.Statuses.{made_of}
+use Rattle.object_bodies.specs.Heads.{user_key, is_clusterwide, namespace_at, or_default, own_namespace, placed}
+use Rattle.object_bodies.specs.Statuses.{new_status}
 use Rattle.std.specs.Result.{IsOk}
 use Rattle.user_events.specs.Asked.{apply_wish}
-use Rattle.user_events.specs.Places.{is_place}
+use Rattle.cluster_objects.specs.Places.{is_place}
 use Rattle.user_events.specs.declared.wishes.Wish.{Wish}
 use Rattle.user_events.proofs.Chains.{then_ok, told_ok, below_ok, here_ok, ok_is}
 
@@ -74,7 +73,7 @@ own_is_place metadata namespace e =
     subst (λ n. is_place n ≡ true) same (default_is_place found.0 (λ name is. in_field metadata (codes "namespace") name (read ∙ ap Ok is)))
 
 namespace_is_place : (kind : List ℕ) (value : Data) (namespace : List ℕ) → namespace_at kind value ≡ Ok namespace → is_place namespace ≡ true
-namespace_is_place kind value namespace e = by_test (is_global kind) e
+namespace_is_place kind value namespace e = by_test (is_clusterwide kind) e
   where
     by_test : (b : Bool) → cond {A = Result (List ℕ) Fault} b (Ok []) (fields_at own_namespace (codes "metadata") value) ≡ Ok namespace → is_place namespace ≡ true
     by_test true e = let same : [] ≡ namespace = cc in subst (λ n. is_place n ≡ true) same refl
@@ -85,14 +84,14 @@ namespace_is_place kind value namespace e = by_test (is_global kind) e
 
 parts_in_place : (key : Key) (value : Data) (found : Key × Status) → user_parts key value ≡ Ok found → is_place found.0.namespace ≡ true
 parts_in_place key value found e =
-    let space = then_ok (namespace_at key.kind value) (λ namespace. and_then (made_of key value) (λ made. Ok (placed key namespace, status_of made))) found e in
-    let made = then_ok (made_of key value) (λ made. Ok (placed key space.0, status_of made)) found space.2 in
-    subst (λ (r : Key × Status). is_place r.0.namespace ≡ true) (ok_is _ _ made.2) (namespace_is_place key.kind value space.0 space.1)
+    let space = then_ok (namespace_at key.kind value) (λ namespace. and_then (new_status key value) (λ status. Ok (placed key namespace, status))) found e in
+    let status = then_ok (new_status key value) (λ status. Ok (placed key space.0, status)) found space.2 in
+    subst (λ (r : Key × Status). is_place r.0.namespace ≡ true) (ok_is _ _ status.2) (namespace_is_place key.kind value space.0 space.1)
 
 pub object_in_place : (body : List ℕ) (found : Key × Status) → user_object body ≡ Ok found → is_place found.0.namespace ≡ true
 object_in_place body found e =
     let value = then_ok (value_of body) user_value found e in
-    let key = then_ok (allowed_key value.0) (λ key. told bad_field (user_parts key value.0)) found value.2 in
+    let key = then_ok (user_key value.0) (λ key. told bad_field (user_parts key value.0)) found value.2 in
     parts_in_place key.0 value.0 found (told_ok bad_field (user_parts key.0 value.0) found key.2)
 
 pub wish_in_place : (body : List ℕ) (found : Key × Wish) → apply_wish body (user_object body) ≡ Ok found → is_place found.0.namespace ≡ true

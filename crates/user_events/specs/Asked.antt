@@ -11,7 +11,7 @@ use Rattle.cluster_history.specs.History.{History, position, slot}
 use Rattle.cluster_history.specs.declared.slots.Slot.{Slot}
 use Rattle.object_bodies.specs.Bodies.{user_object}
 use Rattle.object_bodies.specs.declared.faults.ObjectFault.{ObjectFault}
-use Rattle.user_events.specs.Places.{catalog_key, plan_key, deployment_key, resolution_key}
+use Rattle.cluster_objects.specs.Places.{catalog_key, claims_key, plan_key, deployment_key, resolution_key}
 use Rattle.user_events.specs.Reasons.{body_refusal}
 use Rattle.user_events.specs.Wishes.{wished}
 use Rattle.user_events.specs.declared.refusals.Refusal.{Refusal}
@@ -50,6 +50,10 @@ ready h namespace name state = asked_at h (deployment_key namespace name) (wishe
 
 abbrev pub retry : History → List ℕ → Option ℕ → Result Write Refusal
 retry h namespace budget = asked_at h (resolution_key namespace) (wishes.Retry budget)
+
+-- the claims of all namespaces are one object
+abbrev pub release : History → List ℕ → Result Write Refusal
+release h namespace = asked_at h claims_key (wishes.Release namespace)
 
 -- Of a body that is given, valid or not. It is never refused.
 abbrev pub catalog : History → List ℕ → List ℕ → List ℕ → ℤ → Result Write Refusal

@@ -1,5 +1,4 @@
 pub mod Answers
 pub mod Asked
-pub mod Places
 pub mod Reasons
 pub mod Wishes

@@ -1,7 +1,11 @@
 -- What becomes of the object at a key by what a user wishes of it. The old object is what stands at the key, if anything does, and `seen` is the length of the history.
 use Rattle.std.specs.Prelude.{Bool, true, false, ◌&&◌, not, if◌then◌else◌, ℕ, ℤ, List, [], codes, Option, Some, None, Result, Ok}
+use Rattle.std.specs.List.{filter, list_any}
 use Rattle.std.specs.Option.{unwrap_or}
-use Rattle.cluster_objects.specs.Kinds.{csv_at, deployment_at, plan_at, resolution_at, subscription_at, is_resolution_key}
+use Rattle.cluster_objects.specs.Keys.{same_text}
+use Rattle.cluster_objects.specs.Kinds.{claims_at, csv_at, deployment_at, plan_at, resolution_at, subscription_at, is_claims_key, is_lease_key, is_resolution_key}
+use Rattle.cluster_objects.specs.declared.groups.Claim.{Claim}
+use Rattle.cluster_objects.specs.declared.groups.ClaimsStatus.{ClaimsStatus}
 use Rattle.cluster_objects.specs.declared.keys.Key.{Key}
 use Rattle.cluster_objects.specs.declared.objects.Object.{Object}
 use Rattle.cluster_objects.specs.declared.objects.Status.{Status}
@@ -45,7 +49,7 @@ abbrev pub kept_subscription : Option SubscriptionStatus → SubscriptionStatus 
 kept_subscription None new = new
 kept_subscription (Some old) new = record new { state = old.state }
 
--- A Deployment that is there keeps its readiness. All else of a status is the new body's.
+-- A Deployment that is there keeps its readiness. All else of a status is the new body's: of a Strategy and of a Group it is the whole.
 abbrev pub kept_status : Key → Option Object → Status → Status
 kept_status key old status.Plain = status.Plain
 kept_status key old (status.Catalog new) = status.Catalog new
@@ -54,18 +58,26 @@ kept_status key old (status.Csv new) = status.Csv (kept_csv (csv_at key old) new
 kept_status key old (status.Deployment new) = status.Deployment (unwrap_or (deployment_at key old) new)
 kept_status key old (status.Plan new) = status.Plan new
 kept_status key old (status.Resolution new) = status.Resolution new
+kept_status key old (status.Strategy new) = status.Strategy new
+kept_status key old (status.Group new) = status.Group new
+kept_status key old (status.Claims new) = status.Claims new
+kept_status key old (status.Lease new) = status.Lease new
 
 abbrev pub applied : List ℕ → Status → Key → Option Object → ℕ → Object
 applied body status key old seen = written body (kept_status key old status) (kept_owner old) seen
 
--- ---- delete: whatever is there, but no Resolution
+-- ---- delete: whatever is there, but no Resolution, no claims and no lease
 
 abbrev pub removed : Option Object → Result (Option Object) Refusal
 removed None = refused (codes "absent")
 removed (Some object) = Ok None
 
 abbrev pub deleted : Key → Option Object → Result (Option Object) Refusal
-deleted key old = if is_resolution_key key then refused (codes "forbidden Resolution") else removed old
+deleted key old =
+    if is_resolution_key key then refused (codes "forbidden Resolution")
+    else if is_claims_key key then refused (codes "forbidden Claims")
+    else if is_lease_key key then refused (codes "forbidden Lease")
+    else removed old
 
 -- ---- approve: the plan that is there, if it waits for an approval
 
@@ -130,6 +142,27 @@ retried budget key (Some object) seen = tried_again budget object seen (resoluti
 abbrev pub new_catalog : List ℕ → ℤ → ℕ → Object
 new_catalog body priority seen = written body (status.Catalog (record { priority = priority })) None seen
 
+-- ---- release: the claims that are there, without those of a namespace
+
+abbrev pub is_claim_of : List ℕ → Claim → Bool
+is_claim_of namespace claim = same_text claim.namespace namespace
+
+-- those of the other namespaces, in their order
+abbrev pub without_claims_of : List ℕ → ClaimsStatus → ClaimsStatus
+without_claims_of namespace claims = record { entries = filter (λ claim. not (is_claim_of namespace claim)) claims.entries }
+
+-- What is no object of claims has none of this namespace.
+abbrev pub released_claims : List ℕ → Object → ℕ → Option ClaimsStatus → Result (Option Object) Refusal
+released_claims namespace object seen None = refused (codes "absent")
+released_claims namespace object seen (Some claims) =
+    if list_any (is_claim_of namespace) claims.entries
+    then Ok (Some (with_status object (status.Claims (without_claims_of namespace claims)) seen))
+    else refused (codes "absent")
+
+abbrev pub released : List ℕ → Key → Option Object → ℕ → Result (Option Object) Refusal
+released namespace key None seen = refused (codes "absent")
+released namespace key (Some object) seen = released_claims namespace object seen (claims_at key (Some object))
+
 -- ---- each of them: the object that is to stand at the key, and None where none is to
 
 abbrev pub wished : Wish → Key → Option Object → ℕ → Result (Option Object) Refusal
@@ -138,4 +171,5 @@ wished wishes.Delete key old seen = deleted key old
 wished wishes.Approve key old seen = approved key old seen
 wished (wishes.Ready state) key old seen = readied state key old seen
 wished (wishes.Retry budget) key old seen = Ok (Some (retried budget key old seen))
+wished (wishes.Release namespace) key old seen = released namespace key old seen
 wished (wishes.Catalog body priority) key old seen = Ok (Some (new_catalog body priority seen))

@@ -62,6 +62,10 @@ fn kept_status(key: &Key, old: Option<&Object>, new: &Status) -> Result<Status, 
         Status::Deployment(state) => Status::Deployment(deployment_at(key, old).unwrap_or(*state)),
         Status::Plan(plan) => Status::Plan(plan.clone()?),
         Status::Resolution(found) => Status::Resolution(found.clone()?),
+        Status::Strategy(found) => Status::Strategy(*found),
+        Status::Group(found) => Status::Group(found.clone()?),
+        Status::Claims(found) => Status::Claims(found.clone()?),
+        Status::Lease(found) => Status::Lease(*found),
     })
 }
 

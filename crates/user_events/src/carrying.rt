@@ -10,7 +10,7 @@ ghost use Rattle.olm_base.specs.Names.{is_name};
 ghost use Rattle.olm_io.specs.Outside.{HasCause};
 ghost use Rattle.user_events.specs.Answers.{Answers, store_failed, folder_failed, outage_failed};
 ghost use Rattle.user_events.specs.Asked as spec;
-ghost use Rattle.user_events.specs.Places.{is_place};
+ghost use Rattle.cluster_objects.specs.Places.{is_place};
 ghost use Rattle.user_events.specs.Reasons.{is_free};
 
 use crate::answers::UserAnswer;

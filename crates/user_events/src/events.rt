@@ -8,7 +8,7 @@ ghost use Rattle.object_bodies.specs.Bodies.{user_object};
 ghost use Rattle.object_store.specs.Puts.{IsSound};
 ghost use Rattle.user_events.specs.Answers.{Answers, store_failed, folder_failed};
 ghost use Rattle.user_events.specs.Asked as spec;
-ghost use Rattle.user_events.specs.Places as places;
+ghost use Rattle.cluster_objects.specs.Places as places;
 ghost use Rattle.user_events.specs.Reasons.{is_free};
 
 use crate::answers::UserAnswer;
@@ -214,6 +214,52 @@ pub fn retry<C: Cluster>(
 {
     match resolution_key(alloc, namespace) {
         Ok(key) => carry_out(alloc, key, Wish::Retry { budget }, cluster),
+        Err(Memory) => UserAnswer::Memory,
+    }
+}
+
+fn claims_key(alloc: Global) -> Result<Key, Memory>
+    ensures { IfOk result (λ key. key ≡ places.claims_key) }
+{
+    Ok(Key {
+        group: Text::from_str(alloc, "olmctl.local")?,
+        kind: given_name(alloc, b"Claims")?,
+        namespace: Text::from_string(String::new(alloc)),
+        name: given_name(alloc, b"claims")?,
+    })
+}
+
+fn release_wish(namespace: &Name) -> Result<Wish, Memory>
+    ensures { IfOk result (λ wish. wish ≡ Wish.Release namespace.now) }
+{
+    Ok(Wish::Release {
+        namespace: namespace.clone()?,
+    })
+}
+
+fn release_parts(alloc: Global, namespace: &Name) -> Result<(Key, Wish), Memory>
+    ensures { IfOk result (λ parts. parts ≡ (places.claims_key, Wish.Release namespace.now)) }
+{
+    let key = claims_key(alloc)?;
+    let wish = release_wish(namespace)?;
+    Ok((key, wish))
+}
+
+/// Gives up the claims of a namespace.
+///
+/// It is refused where there are none: also where there is no object of claims.
+pub fn release<C: Cluster>(alloc: Global, namespace: &Name, cluster: &mut C) -> UserAnswer
+    requires ready { C.ready cluster.old ≡ true }
+    ensures answer { Answers C.fits (C.limit cluster.old) (C.history cluster.old) (λ asked. spec.release (C.history cluster.old) namespace.now ≡ asked) (C.history cluster.new) result }
+    ensures limit { C.limit cluster.new ≡ C.limit cluster.old }
+    ensures tells { C.tells cluster.new ≡ C.tells cluster.old }
+    ensures sound { IsSound (C.tells cluster.old) (C.ready cluster.old) (C.damage cluster.old) → IsSound (C.tells cluster.new) (C.ready cluster.new) (C.damage cluster.new) }
+    ensures cause { HasCause (C.faults cluster.old) (C.faults cluster.new) (store_failed result ≡ true) }
+    ensures ready { C.ready cluster.new ≡ not (store_failed result) }
+    ensures folder { folder_failed result ≡ false }
+{
+    match release_parts(alloc, namespace) {
+        Ok((key, wish)) => carry_out(alloc, key, wish, cluster),
         Err(Memory) => UserAnswer::Memory,
     }
 }

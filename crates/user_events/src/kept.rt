@@ -4,8 +4,9 @@ ghost use Rattle.std.specs.Option.{option_map};
 ghost use Rattle.cluster_objects.specs.Kinds as spec;
 
 use cluster_objects::{
-    CsvStatus, Key, Object, PlanStatus, Readiness, ResolutionStatus, Status, SubscriptionStatus,
-    is_csv_key, is_deployment_key, is_plan_key, is_resolution_key, is_subscription_key,
+    ClaimsStatus, CsvStatus, Key, Object, PlanStatus, Readiness, ResolutionStatus, Status,
+    SubscriptionStatus, is_claims_key, is_csv_key, is_deployment_key, is_plan_key,
+    is_resolution_key, is_subscription_key,
 };
 
 fn as_csv(object: Option<&Object>) -> Option<&CsvStatus>
@@ -49,6 +50,15 @@ fn as_resolution(object: &Object) -> Option<&ResolutionStatus>
 {
     match &object.status {
         Status::Resolution(found) => Some(found),
+        _ => None,
+    }
+}
+
+fn as_claims(object: &Object) -> Option<&ClaimsStatus>
+    ensures { option_map (λ found. found.now) result ≡ spec.as_claims (Some object.now) }
+{
+    match &object.status {
+        Status::Claims(found) => Some(found),
         _ => None,
     }
 }
@@ -98,6 +108,16 @@ pub fn resolution_at<'a>(key: &Key, object: &'a Object) -> Option<&'a Resolution
 {
     if is_resolution_key(key) {
         as_resolution(object)
+    } else {
+        None
+    }
+}
+
+pub fn claims_at<'a>(key: &Key, object: &'a Object) -> Option<&'a ClaimsStatus>
+    ensures { option_map (λ found. found.now) result ≡ spec.claims_at key.now (Some object.now) }
+{
+    if is_claims_key(key) {
+        as_claims(object)
     } else {
         None
     }

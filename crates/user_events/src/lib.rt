@@ -11,9 +11,10 @@ mod events;
 mod kept;
 mod objects;
 mod refusals;
+mod releasing;
 mod reviving;
 mod wishes;
 
 pub use answers::UserAnswer;
-pub use events::{apply, approve, delete, ready, retry, write_catalog};
+pub use events::{apply, approve, delete, ready, release, retry, write_catalog};
 pub use refusals::{Refusal, because};

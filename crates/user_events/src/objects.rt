@@ -7,7 +7,10 @@ ghost use Rattle.user_events.specs.Wishes as spec;
 
 use crate::kept::{deployment_at, plan_at};
 use crate::refusals::{Refusal, refused};
-use cluster_objects::{Key, Object, PlanPhase, PlanStatus, Readiness, Status, is_resolution_key};
+use cluster_objects::{
+    Key, Object, PlanPhase, PlanStatus, Readiness, Status, is_claims_key, is_lease_key,
+    is_resolution_key,
+};
 use olm_base::Memory;
 use std::alloc::Global;
 
@@ -30,6 +33,12 @@ pub(crate) fn deleted(
 {
     if is_resolution_key(key) {
         return Err(refused(alloc, "forbidden Resolution"));
+    }
+    if is_claims_key(key) {
+        return Err(refused(alloc, "forbidden Claims"));
+    }
+    if is_lease_key(key) {
+        return Err(refused(alloc, "forbidden Lease"));
     }
     removed(alloc, old)
 }

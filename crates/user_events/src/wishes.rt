@@ -8,9 +8,10 @@ ghost use Rattle.user_events.specs.Wishes as spec;
 use crate::applying::applied;
 use crate::objects::{approved, deleted, readied};
 use crate::refusals::Refusal;
+use crate::releasing::released;
 use crate::reviving::retried;
 use cluster_objects::{CatalogStatus, Key, Object, Readiness, Status};
-use olm_base::{Bytes, Memory};
+use olm_base::{Bytes, Memory, Name};
 use std::alloc::Global;
 
 /// What a user wishes of the object at a key.
@@ -26,6 +27,8 @@ pub enum Wish {
     Ready { state: Readiness },
     /// There is to be a new resolution, with this budget of lemmas.
     Retry { budget: Option<u32> },
+    /// The claims are to be without those of this namespace.
+    Release { namespace: Name },
     /// There is to be a new catalog source, with this body and this priority.
     Catalog { body: Bytes, priority: i64 },
 }
@@ -73,6 +76,7 @@ pub(crate) fn wished(
         Wish::Approve => approved(alloc, key, old, seen),
         Wish::Ready { state } => readied(alloc, state, key, old, seen),
         Wish::Retry { budget } => Ok(Some(retried(alloc, budget, key, old, seen)?)),
+        Wish::Release { namespace } => released(alloc, &namespace, key, old, seen),
         Wish::Catalog { body, priority } => Ok(Some(new_catalog(body, priority, seen))),
     }
 }

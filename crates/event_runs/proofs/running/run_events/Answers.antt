@@ -1,8 +1,9 @@
 use Rattle.std.proofs.Common.{◌≡◌, ◌≤◌, ℕ, List, [], suc, drop, take, refl, sym, ◌∙◌, subst, arith}
 use Rattle.std.proofs.KnownBytes.{Appends-nil}
 use Rattle.event_script.specs.declared.events.Event.{Event}
+use Rattle.folder_events.specs.Events.{is_of_folder}
 use Rattle.event_runs.specs.Runs.{AllPass, NoEvents}
-use Rattle.event_runs.proofs.Passing.{one_turn, ends_there, taken_more, split_at}
+use Rattle.event_runs.proofs.Passing.{one_turn, ends_there, none_at, taken_more, split_at}
 use Rattle.event_runs.proofs.running.run_events.Goals as goal
 
 pub events-init : goal.events-init
@@ -11,6 +12,7 @@ events-init g c = record {
   tells = refl;
   limit = refl;
   same = refl;
+  untouched = λ none. refl;
   ready = c.requires.ready;
   sound = c.requires.sound;
   store = omega arith;
@@ -41,6 +43,7 @@ events-preserved g c =
       tells = turn.tells ∙ before.tells;
       limit = turn.limit ∙ before.limit;
       same = turn.same ∙ before.same;
+      untouched = λ none. turn.untouched (none_at is_of_folder es i e c.events-test.true c.event-item.is none) ∙ before.untouched none;
       ready = turn.ready;
       sound = turn.sound;
       store = omega (arith, before.store, turn.store.later);
@@ -61,3 +64,8 @@ returns-in-Err-clause-runs g c =
     (g.F.Folder.held c.args.folder.now) (g.F.Folder.held c.events.folder) (g.C.Cluster.history cluster) (g.C.Cluster.history c.events.cluster) (g.C.Cluster.history new.cluster)
     es (take i es) (drop (suc i) es) e (g.O.Sink.held c.args.out.now) (g.O.Sink.held c.events.out) (g.O.Sink.held new.out) c.in-Err.halt
     before.tells before.limit before.same (split_at es i e c.events-test.true c.event-item.is) before.passed turn.steps
+
+pub returns-in-Err-clause-untouched : goal.returns-in-Err-clause-untouched
+returns-in-Err-clause-untouched g c = λ none.
+    let here = none_at is_of_folder c.args.events.now c.events.event-index c.event-item.result c.events-test.true c.event-item.is none in
+    c.in-Err.ensures.untouched here ∙ c.events.invariant.untouched none

@@ -6,10 +6,11 @@ The words are one of these, where `key=value` may be left out, and an option's v
     catalog NAMESPACE/NAME PRIORITY body=blank
     csv NAMESPACE/NAME PHASE package=P version=V replaces=N owned=NAME:VERSION:KIND,.. kind=K
     subscription NAMESPACE/NAME PACKAGE CATALOG_NAMESPACE/CATALOG channel=C starting=N manual=yes
+    strategy NAMESPACE/NAME forward|default kind=K
     plain KIND NAMESPACE/NAME
     removal KIND NAMESPACE/NAME
 
-and each may have expect=VERSION. `--check` writes nothing, and fails if a row's digits aren't those of its words. The
+and each may have expect=VERSION and the group of its key, group=G. `--check` writes nothing, and fails if a row's digits aren't those of its words. The
 spelling is that of docs/payloads.md, written here a second time.
 """
 import pathlib
@@ -36,10 +37,10 @@ def many(items):
     return number(len(items)) + b"".join(items)
 
 
-def write(kind, at, options, made):
+def write(kind, at, options, made, group="operators.coreos.com"):
     """A write by the user: of an object with this body, status and nothing else, or of none."""
     namespace, name = at.split("/")
-    key = text("operators.coreos.com") + text(kind) + text(namespace) + text(name)
+    key = text(options.get("group", group)) + text(kind) + text(namespace) + text(name)
     head = b"\0" + number(int(options.get("expect", "0"))) + key
     if made is None:
         return head + b"\0"
@@ -71,6 +72,11 @@ def subscription(options, at, package, source):
     return write("Subscription", at, options, ("", b"\2" + spec + b"\0"))
 
 
+def strategy(options, at, word):
+    status = b"\7" + (b"\1" if word == "forward" else b"\0")
+    return write(options.get("kind", "Strategy"), at, options, ("", status), "olmctl.local")
+
+
 def plain(options, kind, at):
     return write(kind, at, options, ("", b"\0"))
 
@@ -79,7 +85,7 @@ def removal(options, kind, at):
     return write(kind, at, options, None)
 
 
-FORMS = {f.__name__: f for f in (catalog, csv, subscription, plain, removal)}
+FORMS = {f.__name__: f for f in (catalog, csv, subscription, strategy, plain, removal)}
 
 
 def with_digits(row):

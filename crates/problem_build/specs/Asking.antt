@@ -37,8 +37,9 @@ installed tips name = find (is_tip_of name) tips
 abbrev pub installed_place : List Tip → List ℕ → Option ℕ
 installed_place tips name = position (is_tip_of name) tips
 
-abbrev pub has_succeeded : List Tip → List ℕ → Bool
-has_succeeded tips name = option_map_or (λ tip. tip.succeeded) (installed tips name) false
+-- It may be upgraded. Where nothing is installed, nothing is upgraded.
+abbrev pub is_upgradable : List Tip → List ℕ → Bool
+is_upgradable tips name = option_map_or (λ tip. tip.succeeded) (installed tips name) false
 
 -- The upgrades from a tip in the subscription's channel, in channel order.
 abbrev pub upgrades_in : Catalog → SubSpec → Tip → List (List ℕ)
@@ -51,14 +52,14 @@ upgrades_from catalogs tips spec =
     option_map_or (λ tip. option_map_or (λ catalog. upgrades_in catalog spec tip) (source catalogs spec) [])
     (installed tips spec.«package») []
 
--- The subscription with its channel, the place of the installed one among the tips, whether that one has succeeded, and the upgrades from it.
+-- The subscription with its channel, the place of the installed one among the tips, whether that one may be upgraded, and the upgrades from it.
 abbrev pub asked : List Visible → List Tip → SubSpec → Asked
 asked catalogs tips spec =
     record {
       spec = spec;
       channel = channel_from catalogs spec;
       installed = installed_place tips spec.«package»;
-      has_succeeded = has_succeeded tips spec.«package»;
+      is_upgradable = is_upgradable tips spec.«package»;
       upgrades = upgrades_from catalogs tips spec;
     }
 
@@ -69,11 +70,11 @@ is_followed asked entry =
     && same entry.«package» asked.spec.«package» && option_map_or (same entry.channel) asked.channel false
 
 -- Whether a name of its channel is a candidate. With nothing installed it is that one with which the subscription starts, where it
--- names one, and each else. From an installed one that has succeeded its upgrades are, and from one in another phase none is.
+-- names one, and each else. From an installed one that may be upgraded its upgrades are, and from any other none is.
 abbrev pub is_wanted : Asked → List ℕ → Bool
 is_wanted asked name = elim asked.installed [
   | None ↦ option_map_or (same name) asked.spec.starting true
-  | Some place ↦ asked.has_succeeded && is_among name asked.upgrades
+  | Some place ↦ asked.is_upgradable && is_among name asked.upgrades
 ]
 
 -- The entries that are candidates of the subscription. Behind them its installed one is a candidate too.

@@ -25,7 +25,7 @@ pub(crate) struct Asked {
     /// The place of the installed one among the tips.
     pub installed: Option<usize>,
     /// Whether that one may be upgraded.
-    pub has_succeeded: bool,
+    pub is_upgradable: bool,
     /// The upgrades from the installed one, in channel order.
     pub upgrades: Many<Name>,
 }
@@ -120,8 +120,8 @@ fn installed_place(tips: &[Tip], package: &Name) -> Option<usize>
     tips.iter().position(|tip| is_tip_of(tip, package))
 }
 
-fn has_succeeded(tips: &[Tip], package: &Name) -> bool
-    ensures { result ≡ asking.has_succeeded tips.now «package».now }
+fn is_upgradable(tips: &[Tip], package: &Name) -> bool
+    ensures { result ≡ asking.is_upgradable tips.now «package».now }
 {
     match installed(tips, package) {
         Some(tip) => tip.succeeded,
@@ -176,7 +176,7 @@ fn asked_by(
         spec: spec.clone()?,
         channel: channel_from(catalogs, spec)?,
         installed: installed_place(tips, &spec.package),
-        has_succeeded: has_succeeded(tips, &spec.package),
+        is_upgradable: is_upgradable(tips, &spec.package),
         upgrades: upgrades_from(alloc, catalogs, tips, spec)?,
     })
 }
@@ -231,7 +231,7 @@ fn is_wanted(asked: &Asked, name: &Name) -> bool
 {
     match asked.installed {
         None => is_start(asked, name),
-        Some(_) => asked.has_succeeded && is_among(name, asked.upgrades.as_slice()),
+        Some(_) => asked.is_upgradable && is_among(name, asked.upgrades.as_slice()),
     }
 }
 

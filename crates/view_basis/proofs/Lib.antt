@@ -4,4 +4,5 @@ pub mod Found
 pub mod Ordered
 pub mod Slots
 pub mod Sources
+pub mod Strategies
 pub mod Valid

@@ -21,6 +21,7 @@ use Rattle.cluster_objects.specs.declared.statuses.CsvStatus.{CsvStatus}
 use Rattle.cluster_history.specs.Views.{View}
 use Rattle.cluster_history.specs.declared.slots.Slot.{Slot}
 use Rattle.view_basis.specs.Basis.{subscription_in}
+use Rattle.view_basis.specs.Forward.{is_forward}
 use Rattle.view_basis.specs.Laws.{CatalogsAreInOrder, CatalogsAreOfSlots, SubscriptionsAreByName, TipsAreByName}
 use Rattle.view_basis.specs.Tips.{csv_in, is_replaced, tip_in, tip_of}
 use Rattle.view_basis.specs.Visible.{Source, is_before, is_seen_from, seen_cmp, source_at, source_in, source_of, sources}
@@ -29,7 +30,7 @@ use Rattle.upgrade_graph.proofs.Sorts.{sorted_permutes}
 use Rattle.view_basis.proofs.Ordered.{picked, shown_in_order, sorted_in_order}
 
 -- keys that differ in their names alone are in the order of these
-by_names : (a b : Key) → a.group ≡ b.group → a.kind ≡ b.kind → a.namespace ≡ b.namespace → key_cmp a b ≡ text_cmp a.name b.name
+pub by_names : (a b : Key) → a.group ≡ b.group → a.kind ≡ b.kind → a.namespace ≡ b.namespace → key_cmp a b ≡ text_cmp a.name b.name
 unfolding key_cmp
 by_names a b g k n =
     let same : (s t : List ℕ) → s ≡ t → text_cmp s t ≡ Equal = λ s t e. subst (λ u. text_cmp s u ≡ Equal) e (tied_itself nat_list_cmp_total s) in
@@ -74,8 +75,8 @@ csv_key namespace e csv h =
 
 tip_key : (view : View) (e : Key × Slot) (tip : Tip) → tip_in view e ≡ Some tip → (tip.name ≡ e.0.name) × IsOf (codes "ClusterServiceVersion") view.namespace e.0
 tip_key view e tip h =
-    let there = otherwise (is_replaced view e.0.name) (option_map (tip_of e.0.name) (csv_in view.namespace e)) tip h in
-    let (csv, is, made) = inside (tip_of e.0.name) (csv_in view.namespace e) tip there in
+    let there = otherwise (is_replaced view e.0.name) (option_map (tip_of (is_forward view) e.0.name) (csv_in view.namespace e)) tip h in
+    let (csv, is, made) = inside (tip_of (is_forward view) e.0.name) (csv_in view.namespace e) tip there in
     (ap (λ t. t.name) (sym made), csv_key view.namespace e csv is)
 
 pub tips_by_name : TipsAreByName

@@ -8,8 +8,9 @@ use Rattle.fbc_types.specs.declared.catalog.Catalog.{Catalog}
 use Rattle.fbc_types.specs.declared.fault.CheckFault.{CheckFault}
 use Rattle.fbc_check.specs.Checking.{by_faults, checked}
 use Rattle.fbc_read.specs.Blobs.{nothing}
+use Rattle.fbc_read.specs.Bodies.{input_limit}
 use Rattle.fbc_read.specs.Catalogs.{Read, reading}
-use Rattle.view_basis.specs.Bodies.{body_limit, catalog_of, valid_catalog}
+use Rattle.view_basis.specs.Bodies.{catalog_of, valid_catalog}
 use Rattle.view_basis.specs.Laws.{ValidBreaksNothing}
 
 kept : (found catalog : Catalog) (faults : List CheckFault) → faults ≡ broken found → result_ok (by_faults found faults) ≡ Some catalog → broken catalog ≡ []
@@ -26,4 +27,4 @@ by_limit catalog body false h = absurd (let bad : None ≡ Some catalog = h in c
 
 pub valid_breaks_nothing : ValidBreaksNothing
 unfolding valid_catalog
-valid_breaks_nothing body catalog h = by_limit catalog body (nat_le (length body) body_limit) h
+valid_breaks_nothing body catalog h = by_limit catalog body (nat_le (length body) input_limit) h

@@ -4,13 +4,10 @@ use Rattle.std.specs.Option.{option_and_then}
 use Rattle.std.specs.Result.{result_ok}
 use Rattle.catalog_stream.specs.Stream.{blobs}
 use Rattle.fbc_read.specs.Blobs.{nothing}
+use Rattle.fbc_read.specs.Bodies.{input_limit}
 use Rattle.fbc_read.specs.Catalogs.{reading}
 use Rattle.fbc_check.specs.Checking.{checked}
 use Rattle.fbc_types.specs.declared.catalog.Catalog.{Catalog}
-
--- the most bytes of a body that is read
-abbrev pub body_limit : ℕ
-body_limit = 67108864
 
 -- The catalog of a text that is read without fault, where that catalog breaks no rule.
 abbrev pub catalog_of : List ℕ → Option Catalog
@@ -18,4 +15,4 @@ catalog_of text = option_and_then (λ read. result_ok (checked read.catalog)) (r
 
 -- A body above the limit is no catalog, whatever it holds.
 unfoldable pub valid_catalog : List ℕ → Option Catalog
-valid_catalog body = if nat_le (length body) body_limit then catalog_of body else None
+valid_catalog body = if nat_le (length body) input_limit then catalog_of body else None

@@ -1,5 +1,6 @@
 pub mod Bodies
 pub mod Visible
+pub mod Forward
 pub mod Tips
 pub mod Basis
 pub mod Sources

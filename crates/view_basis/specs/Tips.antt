@@ -1,5 +1,5 @@
 -- The tips of a namespace: its CSVs that no other CSV there replaces.
-use Rattle.std.specs.Prelude.{ℕ, Bool, true, false, ◌==◌, ◌&&◌, not, if◌then◌else◌, List, map, Option, None}
+use Rattle.std.specs.Prelude.{ℕ, Bool, false, ◌==◌, ◌&&◌, not, if◌then◌else◌, List, map, Option, None}
 use Rattle.std.specs.List.{after_first, filter_map, find, list_any, position}
 use Rattle.std.specs.Option.{option_map, option_map_or, unwrap_or}
 use Rattle.semver.specs.Parse.{Parts}
@@ -11,11 +11,11 @@ use Rattle.cluster_objects.specs.Kinds.{csv_at}
 use Rattle.cluster_objects.specs.declared.keys.Key.{Key}
 use Rattle.cluster_objects.specs.declared.resolutions.Tip.{Tip}
 use Rattle.cluster_objects.specs.declared.statuses.Crd.{Crd}
-use Rattle.cluster_objects.specs.declared.statuses.CsvPhase.TheVariants as phase
 use Rattle.cluster_objects.specs.declared.statuses.CsvStatus.{CsvStatus}
 use Rattle.cluster_history.specs.Views.{View}
 use Rattle.cluster_history.specs.declared.slots.Slot.{Slot}
 use Rattle.op_properties.specs.Offers.{Provided, each_once, is_of}
+use Rattle.view_basis.specs.Forward.{is_forward, may_upgrade}
 
 -- The CSV of a slot, if one of this namespace stands there.
 abbrev pub csv_in : List ℕ → Key × Slot → Option CsvStatus
@@ -38,25 +38,24 @@ is_replaced view name = list_any (names_another view.namespace name) view.slots
 abbrev pub kind_of : Crd → Gvk
 kind_of crd = record { group = after_first (λ byte. byte == 46) crd.name; version = crd.version; kind = crd.kind }
 
--- A CSV may be upgraded where its phase is Succeeded.
-abbrev pub has_succeeded : CsvStatus → Bool
-has_succeeded csv = elim csv.phase [ phase.Succeeded ↦ true | _ ↦ false ]
-
--- A CSV of this name as a tip. It has each kind of its owned definitions once, where it first stands.
-abbrev pub tip_of : List ℕ → CsvStatus → Tip
-tip_of name csv =
+-- A CSV of this name as a tip, in a namespace that is forward or isn't. It has each kind of its owned definitions once, where it
+-- first stands, and keeps in `succeeded` whether it may be upgraded.
+abbrev pub tip_of : Bool → List ℕ → CsvStatus → Tip
+tip_of forward name csv =
     record {
       name = name;
       «package» = csv.«package»;
       version = csv.version;
       kinds = each_once (map kind_of csv.owned);
-      succeeded = has_succeeded csv;
+      succeeded = may_upgrade forward csv;
     }
 
 -- The tip of a slot, if one stands there.
 abbrev pub tip_in : View → Key × Slot → Option Tip
 tip_in view entry =
-    if is_replaced view entry.0.name then None else option_map (tip_of entry.0.name) (csv_in view.namespace entry)
+    if is_replaced view entry.0.name
+    then None
+    else option_map (tip_of (is_forward view) entry.0.name) (csv_in view.namespace entry)
 
 -- The tips, in the order of the slots, which is that of their names.
 abbrev pub tips : View → List Tip

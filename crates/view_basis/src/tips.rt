@@ -4,9 +4,11 @@ ghost use Rattle.std.specs.List.{after_first};
 ghost use Rattle.std.specs.Option.{option_copied, option_map, option_map_or};
 ghost use Rattle.semver.specs.Identifiers.{parts_of};
 ghost use Rattle.op_properties.specs.Offers as offers;
+ghost use Rattle.view_basis.specs.Forward.{is_forward};
 ghost use Rattle.view_basis.specs.Tips as spec;
 
-use cluster_objects::{Crd, CsvPhase, CsvStatus, Key, Status, Tip, is_csv_key};
+use crate::forward::{is_forward, may_upgrade};
+use cluster_objects::{Crd, CsvStatus, Key, Status, Tip, is_csv_key};
 use object_store::{Shared, View};
 use olm_base::{Gvk, Many, Memory, Name, Text};
 use op_properties::Offer;
@@ -109,27 +111,21 @@ fn kinds_of(alloc: Global, owned: &[Crd]) -> Result<Many<Gvk>, Memory>
     Ok(kinds)
 }
 
-fn has_succeeded(csv: &CsvStatus) -> bool
-    ensures { result ≡ spec.has_succeeded csv.now }
-{
-    matches!(csv.phase, CsvPhase::Succeeded)
-}
-
-fn tip_of(alloc: Global, name: &Name, csv: &CsvStatus) -> Result<Tip, Memory>
-    ensures { IfOk result (λ tip. tip ≡ spec.tip_of name.now csv.now) }
+fn tip_of(alloc: Global, forward: bool, name: &Name, csv: &CsvStatus) -> Result<Tip, Memory>
+    ensures { IfOk result (λ tip. tip ≡ spec.tip_of forward name.now csv.now) }
 {
     Ok(Tip {
         name: name.clone()?,
         package: csv.package.clone()?,
         version: csv.version.clone()?,
         kinds: kinds_of(alloc, csv.owned.as_slice())?,
-        succeeded: has_succeeded(csv),
+        succeeded: may_upgrade(forward, csv),
     })
 }
 
 // The CSV of the slot, if it is a tip.
 fn tip_csv_in<'a>(view: &View, entry: &'a (Key, Shared)) -> Option<&'a CsvStatus>
-    ensures { option_map (spec.tip_of entry.now.0.name) (option_copied result) ≡ spec.tip_in view.now entry.now }
+    ensures { option_map (spec.tip_of (is_forward view.now) entry.now.0.name) (option_copied result) ≡ spec.tip_in view.now entry.now }
 {
     match csv_in(view.namespace(), entry) {
         None => None,
@@ -143,12 +139,19 @@ fn tip_csv_in<'a>(view: &View, entry: &'a (Key, Shared)) -> Option<&'a CsvStatus
     }
 }
 
-fn tip_in(alloc: Global, view: &View, entry: &(Key, Shared)) -> Result<Option<Tip>, Memory>
+// The tip of the slot, if one stands there, in a namespace of which it is known whether it is forward.
+fn tip_in(
+    alloc: Global,
+    view: &View,
+    forward: bool,
+    entry: &(Key, Shared),
+) -> Result<Option<Tip>, Memory>
+    requires { forward ≡ is_forward view.now }
     ensures { IfOk result (λ tip. tip ≡ spec.tip_in view.now entry.now) }
 {
     match tip_csv_in(view, entry) {
         None => Ok(None),
-        Some(csv) => Ok(Some(tip_of(alloc, &entry.0.name, csv)?)),
+        Some(csv) => Ok(Some(tip_of(alloc, forward, &entry.0.name, csv)?)),
     }
 }
 
@@ -156,9 +159,10 @@ fn tip_in(alloc: Global, view: &View, entry: &(Key, Shared)) -> Result<Option<Ti
 pub fn tips_of(alloc: Global, view: &View) -> Result<Many<Tip>, Memory>
     ensures { IfOk result (λ tips. tips ≡ spec.tips view.now) }
 {
+    let forward = is_forward(view);
     let mut tips = Many::new(alloc);
     'slots: for entry in view.slots() {
-        if let Some(tip) = tip_in(alloc, view, entry)? {
+        if let Some(tip) = tip_in(alloc, view, forward, entry)? {
             tips.push(tip)?;
         }
     }

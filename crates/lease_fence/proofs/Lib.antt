@@ -1,0 +1,4 @@
+pub mod Ascii
+pub mod Granting
+pub mod Showing
+pub mod Standing

@@ -1,0 +1,4 @@
+pub mod Held
+pub mod Scans
+pub mod Searching
+pub mod Solving

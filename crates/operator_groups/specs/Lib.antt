@@ -1,0 +1,4 @@
+pub mod Acts
+pub mod Modes
+pub mod Claiming
+pub mod Laws

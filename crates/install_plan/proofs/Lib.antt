@@ -1,0 +1,11 @@
+pub mod Adding
+pub mod Ascii
+pub mod Distinct
+pub mod Fitting
+pub mod Gathering
+pub mod Joining
+pub mod Kept
+pub mod Members
+pub mod Naming
+pub mod Turning
+pub mod Whole

@@ -1,0 +1,3 @@
+pub mod Fencing
+pub mod Extending
+pub mod Holding

@@ -1,0 +1,13 @@
+//! Runs: what a list of events makes of a history and of the workers that come in it.
+//!
+//! The definitions stand in `specs/`: a run's state (`States`), what its lines say (`Outcomes`), what an act
+//! (`Acting`), a settle (`Settling`) and the request for a lease (`Leasing`) come to, and a run of events (`Runs`). The
+//! functions here have empty bodies: their contracts are laws of these definitions.
+#![tactic(auto)]
+
+mod laws;
+
+pub use laws::{
+    fenced_puts_hold_the_term, runs_extend_histories, settles_say_what_they_made,
+    workers_hold_views_of_the_history,
+};

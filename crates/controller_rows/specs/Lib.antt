@@ -1,0 +1,5 @@
+pub mod First
+pub mod Upgrade
+pub mod Forward
+pub mod Manual
+pub mod Lost

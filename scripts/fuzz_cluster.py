@@ -27,7 +27,7 @@ dice = random.Random(seed)
 
 # --- the file --------------------------------------------------------------------------------------------------------------------------
 
-STATUSES = [m.Plain, m.CatalogSource, m.Subscription, m.Csv, m.Deployment, m.Plan, m.Resolution]
+STATUSES = [m.Plain, m.CatalogSource, m.Subscription, m.Csv, m.Deployment, m.Plan, m.Resolution, m.Strategy, m.Group, m.Claims, m.Lease]
 WRITERS = ["User", "Resolver", "Installer", "Phases"]
 STATES = ["None", "UpgradeAvailable", "UpgradePending", "AtLatestKnown"]
 PHASES = ["None", "Pending", "InstallReady", "Installing", "Succeeded", "Failed", "Replacing", "Deleting"]
@@ -74,6 +74,10 @@ def status(s):
                 + option(s.replaces, text) + bytes([PHASES.index(s.phase)]))
     if isinstance(s, m.Deployment):
         return kind + bytes([["Waiting", "Ready", "Failed"].index(s.readiness)])
+    if isinstance(s, m.Strategy):
+        return kind + bytes([s.forward])
+    if isinstance(s, m.Group):
+        return kind + option(s.targets, lambda targets: many(targets, text))
     if isinstance(s, m.Resolution):
         assert s.basis == ((), (), ()), "a user's resolution rests on nothing"
         return kind + number(s.number) + number(s.budget) + bytes([s.again]) + number(0) * 3 + outcome(s.outcome) + number(0)
@@ -101,8 +105,8 @@ FOLDER = dict(rows.FOLDER, broken={"broken/a.json": rows.package("argo", "none",
 
 
 def some_object():
-    kind = dice.choice(["Subscription", "ClusterServiceVersion", "Deployment", "CustomResourceDefinition", "ConfigMap", "InstallPlan", "CatalogSource"])
-    api = {"Deployment": "apps/v1", "CustomResourceDefinition": "apiextensions.k8s.io/v1", "ConfigMap": "v1"}.get(kind, "operators.coreos.com/v1alpha1")
+    kind = dice.choice(["Subscription", "ClusterServiceVersion", "Deployment", "CustomResourceDefinition", "ConfigMap", "InstallPlan", "CatalogSource", "Strategy", "OperatorGroup", "Claims", "Lease"])
+    api = {"Deployment": "apps/v1", "Strategy": "olmctl.local/v1", "Claims": "olmctl.local/v1", "Lease": "olmctl.local/v1", "CustomResourceDefinition": "apiextensions.k8s.io/v1", "ConfigMap": "v1"}.get(kind, "operators.coreos.com/v1alpha1")
     metadata = {"name": dice.choice(["a", "b", "argo", "argo.v1.0.0", "argo-operator"])}
     if dice.random() < 0.6:
         metadata["namespace"] = dice.choice(NAMESPACES)
@@ -121,18 +125,27 @@ def some_object():
             body["spec"]["replaces"] = dice.choice(["argo.v1.0.0", "a", "b"])
         if dice.random() < 0.3:
             body["spec"]["install"] = {"spec": {"deployments": [{"name": "argo-operator"}, {"name": ""}][: dice.randrange(1, 3)]}}
+    if kind == "Strategy":
+        metadata["name"] = dice.choice(["strategy", "strategy", "a"])
+        body["spec"] = dice.choice([{}, None, {"upgradeStrategy": ""}, {"upgradeStrategy": "Default"}, {"upgradeStrategy": "TechPreviewUnsafeFailForward"}, {"upgradeStrategy": "x"}])
+    if kind == "OperatorGroup":
+        body["spec"] = dice.choice([{}, None, {"targetNamespaces": dice.choices(NAMESPACES, k=dice.randrange(4))}, {"targetNamespaces": None, "selector": None, "upgradeStrategy": 1},
+                                    {"targetNamespaces": ["a", ""], "selector": {}}, {"selector": {}}])
     if dice.random() < 0.05:
         del body[dice.choice(["apiVersion", "metadata"])]
+    if dice.random() < 0.05:
+        body["apiVersion"] = "other/v1"
     return body
 
 
 def some_event():
-    word = dice.choice(["apply"] * 6 + ["delete", "approve", "catalog", "catalog", "ready", "retry", "restart"])
+    word = dice.choice(["apply"] * 6 + ["delete", "approve", "catalog", "catalog", "ready", "retry", "restart", "release"])
     namespace = dice.choice(NAMESPACES)
     if word == "apply":
         return some_object()
     if word == "delete":
-        kind = dice.choice([("apps", "Deployment"), ("", "ConfigMap"), (m.CORE, "Subscription"), (m.OWN, "Resolution"), (m.CORE, "CatalogSource")])
+        kind = dice.choice([("apps", "Deployment"), ("", "ConfigMap"), (m.CORE, "Subscription"), (m.OWN, "Resolution"), (m.CORE, "CatalogSource"),
+                            (m.OWN, "Strategy"), (m.CORE, "OperatorGroup"), (m.OWN, "Claims"), (m.OWN, "Lease")])
         return {"event": word, "group": kind[0], "kind": kind[1], "namespace": namespace, "name": dice.choice(["a", "b", "argo", "cat"])}
     if word in ("approve", "ready"):
         event = {"event": word, "namespace": namespace, "name": dice.choice(["install-1", "argo-operator", "a"])}
@@ -142,6 +155,8 @@ def some_event():
         return dict(event, priority=dice.randrange(-3, 4)) if dice.random() < 0.5 else event
     if word == "retry":
         return dict({"event": word, "namespace": namespace}, **({"budget": dice.randrange(1, 50)} if dice.random() < 0.5 else {}))
+    if word == "release":
+        return {"event": word, "namespace": namespace}
     return {"event": word}
 
 

@@ -48,7 +48,7 @@ pub fn decide_in<C: Cluster>(
     ensures tells { C.tells cluster.new ≡ C.tells cluster.old }
     ensures limit { C.limit cluster.new ≡ C.limit cluster.old }
     ensures cause { HasCause (C.faults cluster.old) (C.faults cluster.new) (spec.ask_failed result ≡ true) }
-    ensures sound { IsSound (C.tells cluster.old) (C.ready cluster.old) (C.damage cluster.old) → IsSound (C.tells cluster.new) (C.ready cluster.new) (C.damage cluster.new) }
+    ensures sound { IsSound (C.tells cluster.old) (C.damage cluster.old) → IsSound (C.tells cluster.new) (C.damage cluster.new) }
     ensures ready { C.ready cluster.new ≡ not (spec.ask_failed result) }
 {
     match look_in(alloc, namespace, cluster) {

@@ -42,7 +42,7 @@ fn look<C: Cluster>(
     ensures tells { C.tells cluster.new ≡ C.tells cluster.old }
     ensures limit { C.limit cluster.new ≡ C.limit cluster.old }
     ensures cause { HasCause (C.faults cluster.old) (C.faults cluster.new) (ask_failed result ≡ true) }
-    ensures sound { IsSound (C.tells cluster.old) (C.ready cluster.old) (C.damage cluster.old) → IsSound (C.tells cluster.new) (C.ready cluster.new) (C.damage cluster.new) }
+    ensures sound { IsSound (C.tells cluster.old) (C.damage cluster.old) → IsSound (C.tells cluster.new) (C.damage cluster.new) }
     ensures ready { C.ready cluster.new ≡ not (ask_failed result) }
 {
     match cluster.snapshot(alloc, namespace) {
@@ -66,7 +66,7 @@ pub fn look_in<C: Cluster>(
     ensures tells { C.tells cluster.new ≡ C.tells cluster.old }
     ensures limit { C.limit cluster.new ≡ C.limit cluster.old }
     ensures cause { HasCause (C.faults cluster.old) (C.faults cluster.new) (ask_failed result ≡ true) }
-    ensures sound { IsSound (C.tells cluster.old) (C.ready cluster.old) (C.damage cluster.old) → IsSound (C.tells cluster.new) (C.ready cluster.new) (C.damage cluster.new) }
+    ensures sound { IsSound (C.tells cluster.old) (C.damage cluster.old) → IsSound (C.tells cluster.new) (C.damage cluster.new) }
     ensures ready { C.ready cluster.new ≡ not (ask_failed result) }
 {
     match name_of(alloc, namespace) {

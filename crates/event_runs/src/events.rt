@@ -98,13 +98,13 @@ fn run_users<C: Cluster, F: Folder, O: Sink>(
     out: &mut O,
 ) -> Result<(), Halt>
     requires ready { C.ready cluster.old ≡ true }
-    requires sound { IsSound (C.tells cluster.old) (C.ready cluster.old) (C.damage cluster.old) }
+    requires sound { IsSound (C.tells cluster.old) (C.damage cluster.old) }
     requires users { is_users event.now ≡ true }
     requires range { IsInRange event.now }
     ensures steps { spec.Steps (C.tells cluster.old) C.fits (C.limit cluster.old) (F.held folder.old) (C.history cluster.old) event.now (C.history cluster.new) (O.held out.old) (O.held out.new) result }
     ensures tells { C.tells cluster.new ≡ C.tells cluster.old }
     ensures limit { C.limit cluster.new ≡ C.limit cluster.old }
-    ensures sound { IsSound (C.tells cluster.new) (C.ready cluster.new) (C.damage cluster.new) }
+    ensures sound { IsSound (C.tells cluster.new) (C.damage cluster.new) }
     ensures ready { OnOk result (C.ready cluster.new ≡ true) }
     ensures same { F.held folder.new ≡ F.held folder.old }
     ensures untouched { is_of_folder event.now ≡ false → folder.new ≡ folder.old }
@@ -132,13 +132,13 @@ fn restart<C: Cluster, O: Sink>(
 ) -> Result<(), Halt>
     requires users { is_users event.now ≡ false }
     requires run { RunsNow event.now }
-    requires sound { IsSound (C.tells cluster.old) (C.ready cluster.old) (C.damage cluster.old) }
+    requires sound { IsSound (C.tells cluster.old) (C.damage cluster.old) }
     requires ready { C.ready cluster.old ≡ true }
     ensures steps { (fits : History → Write → Bool) (limit : ℕ) (files : spec.Files)
         → spec.Steps (C.tells cluster.old) fits limit files (C.history cluster.old) event.now (C.history cluster.new) (O.held out.old) (O.held out.new) result }
     ensures tells { C.tells cluster.new ≡ C.tells cluster.old }
     ensures limit { C.limit cluster.new ≡ C.limit cluster.old }
-    ensures sound { IsSound (C.tells cluster.new) (C.ready cluster.new) (C.damage cluster.new) }
+    ensures sound { IsSound (C.tells cluster.new) (C.damage cluster.new) }
     ensures ready { OnOk result (C.ready cluster.new ≡ true) }
     ensures store { HasCause (C.faults cluster.old) (C.faults cluster.new) (spec.store_failed result ≡ true) }
     ensures folder { spec.folder_failed result ≡ false }
@@ -161,13 +161,13 @@ pub(crate) fn run_event<C: Cluster, F: Folder, O: Sink>(
     out: &mut O,
 ) -> Result<(), Halt>
     requires ready { C.ready cluster.old ≡ true }
-    requires sound { IsSound (C.tells cluster.old) (C.ready cluster.old) (C.damage cluster.old) }
+    requires sound { IsSound (C.tells cluster.old) (C.damage cluster.old) }
     requires range { IsInRange event.now }
     requires run { RunsNow event.now }
     ensures steps { spec.Steps (C.tells cluster.old) C.fits (C.limit cluster.old) (F.held folder.old) (C.history cluster.old) event.now (C.history cluster.new) (O.held out.old) (O.held out.new) result }
     ensures tells { C.tells cluster.new ≡ C.tells cluster.old }
     ensures limit { C.limit cluster.new ≡ C.limit cluster.old }
-    ensures sound { IsSound (C.tells cluster.new) (C.ready cluster.new) (C.damage cluster.new) }
+    ensures sound { IsSound (C.tells cluster.new) (C.damage cluster.new) }
     ensures ready { OnOk result (C.ready cluster.new ≡ true) }
     ensures same { F.held folder.new ≡ F.held folder.old }
     ensures untouched { is_of_folder event.now ≡ false → folder.new ≡ folder.old }

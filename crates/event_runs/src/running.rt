@@ -30,13 +30,13 @@ pub fn run_events<C: Cluster, F: Folder, O: Sink>(
     out: &mut O,
 ) -> Result<(), Halt>
     requires ready { C.ready cluster.old ≡ true }
-    requires sound { IsSound (C.tells cluster.old) (C.ready cluster.old) (C.damage cluster.old) }
+    requires sound { IsSound (C.tells cluster.old) (C.damage cluster.old) }
     requires ranges { All IsInRange events.now }
     requires run { All RunsNow events.now }
     ensures runs { spec.Runs (C.tells cluster.old) C.fits (C.limit cluster.old) (F.held folder.old) (C.history cluster.old) events.now (C.history cluster.new) (O.held out.old) (O.held out.new) result }
     ensures tells { C.tells cluster.new ≡ C.tells cluster.old }
     ensures limit { C.limit cluster.new ≡ C.limit cluster.old }
-    ensures sound { IsSound (C.tells cluster.new) (C.ready cluster.new) (C.damage cluster.new) }
+    ensures sound { IsSound (C.tells cluster.new) (C.damage cluster.new) }
     ensures ready { OnOk result (C.ready cluster.new ≡ true) }
     ensures same { F.held folder.new ≡ F.held folder.old }
     ensures untouched { list_any is_of_folder events.now ≡ false → folder.new ≡ folder.old }

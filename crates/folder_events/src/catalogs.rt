@@ -61,7 +61,7 @@ fn write_valid<C: Cluster>(
     ensures answer { Answers C.fits (C.limit cluster.old) (C.history cluster.old) (λ asked. spec.catalog_after (C.history cluster.old) namespace.now name.now priority (Ok text) ≡ asked) (C.history cluster.new) result }
     ensures limit { C.limit cluster.new ≡ C.limit cluster.old }
     ensures tells { C.tells cluster.new ≡ C.tells cluster.old }
-    ensures sound { IsSound (C.tells cluster.old) (C.ready cluster.old) (C.damage cluster.old) → IsSound (C.tells cluster.new) (C.ready cluster.new) (C.damage cluster.new) }
+    ensures sound { IsSound (C.tells cluster.old) (C.damage cluster.old) → IsSound (C.tells cluster.new) (C.damage cluster.new) }
     ensures cause { HasCause (C.faults cluster.old) (C.faults cluster.new) (store_failed result ≡ true) }
     ensures ready { C.ready cluster.new ≡ not (store_failed result) }
     ensures folder { folder_failed result ≡ false }
@@ -90,7 +90,7 @@ pub fn catalog<C: Cluster, F: Folder>(
     ensures answer { Answers C.fits (C.limit cluster.old) (C.history cluster.old) (spec.AsksCatalog (F.held folder.old) (C.history cluster.old) namespace.now name.now path.now priority) (C.history cluster.new) result }
     ensures limit { C.limit cluster.new ≡ C.limit cluster.old }
     ensures tells { C.tells cluster.new ≡ C.tells cluster.old }
-    ensures sound { IsSound (C.tells cluster.old) (C.ready cluster.old) (C.damage cluster.old) → IsSound (C.tells cluster.new) (C.ready cluster.new) (C.damage cluster.new) }
+    ensures sound { IsSound (C.tells cluster.old) (C.damage cluster.old) → IsSound (C.tells cluster.new) (C.damage cluster.new) }
     ensures cause { HasCause (C.faults cluster.old) (C.faults cluster.new) (store_failed result ≡ true) }
     ensures ready { C.ready cluster.new ≡ not (store_failed result) }
     ensures unasked { folder_failed result ≡ true → cluster.new ≡ cluster.old }

@@ -51,7 +51,7 @@ pub fn user_event<C: Cluster, F: Folder>(
     ensures key { store_failed result ≡ true → spec.HasKey event.now }
     ensures limit { C.limit cluster.new ≡ C.limit cluster.old }
     ensures tells { C.tells cluster.new ≡ C.tells cluster.old }
-    ensures sound { IsSound (C.tells cluster.old) (C.ready cluster.old) (C.damage cluster.old) → IsSound (C.tells cluster.new) (C.ready cluster.new) (C.damage cluster.new) }
+    ensures sound { IsSound (C.tells cluster.old) (C.damage cluster.old) → IsSound (C.tells cluster.new) (C.damage cluster.new) }
     ensures cause { HasCause (C.faults cluster.old) (C.faults cluster.new) (store_failed result ≡ true) }
     ensures ready { C.ready cluster.new ≡ not (store_failed result) }
     ensures unasked { folder_failed result ≡ true → cluster.new ≡ cluster.old }

@@ -31,7 +31,7 @@ pub fn term_of<C: Cluster>(
     ensures history { C.history cluster.new ≡ C.history cluster.old }
     ensures limit { C.limit cluster.new ≡ C.limit cluster.old }
     ensures tells { C.tells cluster.new ≡ C.tells cluster.old }
-    ensures sound { IsSound (C.tells cluster.old) (C.ready cluster.old) (C.damage cluster.old) → IsSound (C.tells cluster.new) (C.ready cluster.new) (C.damage cluster.new) }
+    ensures sound { IsSound (C.tells cluster.old) (C.damage cluster.old) → IsSound (C.tells cluster.new) (C.damage cluster.new) }
     ensures cause { HasCause (C.faults cluster.old) (C.faults cluster.new) (fault_failed result ≡ true) }
     ensures ready { C.ready cluster.new ≡ not (fault_failed result) }
 {
@@ -62,7 +62,7 @@ pub fn grant<C: Cluster>(
     ensures answer { Answers C.fits (C.limit cluster.old) (C.history cluster.old) (places.lease_key namespace.now role) (spec.granted_at (C.history cluster.old) namespace.now role holder term now keep) (C.history cluster.new) result }
     ensures limit { C.limit cluster.new ≡ C.limit cluster.old }
     ensures tells { C.tells cluster.new ≡ C.tells cluster.old }
-    ensures sound { IsSound (C.tells cluster.old) (C.ready cluster.old) (C.damage cluster.old) → IsSound (C.tells cluster.new) (C.ready cluster.new) (C.damage cluster.new) }
+    ensures sound { IsSound (C.tells cluster.old) (C.damage cluster.old) → IsSound (C.tells cluster.new) (C.damage cluster.new) }
     ensures cause { HasCause (C.faults cluster.old) (C.faults cluster.new) (grant_failed result ≡ true) }
     ensures ready { C.ready cluster.new ≡ not (grant_failed result) }
 {

@@ -27,7 +27,7 @@ pub(crate) fn look<C: Cluster>(
     ensures history { C.history cluster.new ≡ C.history cluster.old }
     ensures limit { C.limit cluster.new ≡ C.limit cluster.old }
     ensures tells { C.tells cluster.new ≡ C.tells cluster.old }
-    ensures sound { IsSound (C.tells cluster.old) (C.ready cluster.old) (C.damage cluster.old) → IsSound (C.tells cluster.new) (C.ready cluster.new) (C.damage cluster.new) }
+    ensures sound { IsSound (C.tells cluster.old) (C.damage cluster.old) → IsSound (C.tells cluster.new) (C.damage cluster.new) }
     ensures cause { HasCause (C.faults cluster.old) (C.faults cluster.new) (outage_failed result ≡ true) }
     ensures ready { C.ready cluster.new ≡ not (outage_failed result) }
 {

@@ -62,7 +62,7 @@ fn put<C: Cluster>(alloc: Global, write: Write, lease: LeaseStatus, cluster: &mu
     ensures answer { Writes C.fits (C.limit cluster.old) (C.history cluster.old) write lease (C.history cluster.new) result }
     ensures limit { C.limit cluster.new ≡ C.limit cluster.old }
     ensures tells { C.tells cluster.new ≡ C.tells cluster.old }
-    ensures sound { IsSound (C.tells cluster.old) (C.ready cluster.old) (C.damage cluster.old) → IsSound (C.tells cluster.new) (C.ready cluster.new) (C.damage cluster.new) }
+    ensures sound { IsSound (C.tells cluster.old) (C.damage cluster.old) → IsSound (C.tells cluster.new) (C.damage cluster.new) }
     ensures cause { HasCause (C.faults cluster.old) (C.faults cluster.new) (grant_failed result ≡ true) }
     ensures ready { C.ready cluster.new ≡ not (grant_failed result) }
 {
@@ -93,7 +93,7 @@ fn put_lease<C: Cluster>(
     ensures answer { Writes C.fits (C.limit cluster.old) (C.history cluster.old) (spec.lease_write (C.history cluster.old) key lease) lease (C.history cluster.new) result }
     ensures limit { C.limit cluster.new ≡ C.limit cluster.old }
     ensures tells { C.tells cluster.new ≡ C.tells cluster.old }
-    ensures sound { IsSound (C.tells cluster.old) (C.ready cluster.old) (C.damage cluster.old) → IsSound (C.tells cluster.new) (C.ready cluster.new) (C.damage cluster.new) }
+    ensures sound { IsSound (C.tells cluster.old) (C.damage cluster.old) → IsSound (C.tells cluster.new) (C.damage cluster.new) }
     ensures cause { HasCause (C.faults cluster.old) (C.faults cluster.new) (grant_failed result ≡ true) }
     ensures ready { C.ready cluster.new ≡ not (grant_failed result) }
 {
@@ -119,7 +119,7 @@ pub(crate) fn give<C: Cluster>(
     ensures answer { Answers C.fits (C.limit cluster.old) (C.history cluster.old) key given (C.history cluster.new) result }
     ensures limit { C.limit cluster.new ≡ C.limit cluster.old }
     ensures tells { C.tells cluster.new ≡ C.tells cluster.old }
-    ensures sound { IsSound (C.tells cluster.old) (C.ready cluster.old) (C.damage cluster.old) → IsSound (C.tells cluster.new) (C.ready cluster.new) (C.damage cluster.new) }
+    ensures sound { IsSound (C.tells cluster.old) (C.damage cluster.old) → IsSound (C.tells cluster.new) (C.damage cluster.new) }
     ensures cause { HasCause (C.faults cluster.old) (C.faults cluster.new) (grant_failed result ≡ true) }
     ensures ready { C.ready cluster.new ≡ not (grant_failed result) }
 {

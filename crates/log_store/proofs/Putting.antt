@@ -3,14 +3,14 @@ use Rattle.std.proofs.Common.{◌≡◌, ◌<◌, ◌+◌, ◌⊎◌, inl, inr, 
 use Rattle.std.proofs.lemmas.Bool.{false≢true}
 use Rattle.cluster_objects.specs.declared.objects.Write.{Write}
 use Rattle.cluster_history.specs.History.{Start, After, empty, position}
-use Rattle.cluster_file.specs.Files.{damage_in, history_of}
+use Rattle.cluster_file.specs.Files.{history_of}
 use Rattle.cluster_file.specs.Writing.{AreWrites, HoldsWrites, history_after, piece}
 use Rattle.cluster_file.proofs.Standing.{written}
 use Rattle.cluster_file.proofs.Walking.{after_all-push}
 use Rattle.cluster_file.specs.Files.{record_form}
 use Rattle.log_file.specs.Log.{IsLog}
 use Rattle.object_store.proofs.Appending.{position-kept}
-use Rattle.object_store.specs.Puts.{Agrees, IsSound, Puts, has_room, put_failed}
+use Rattle.object_store.specs.Puts.{Agrees, Puts, has_room, put_failed}
 use Rattle.object_store.specs.declared.cluster.PutAnswer.{PutAnswer}
 use Rattle.object_store.specs.declared.cluster.PutAnswer.TheVariants as put
 use Rattle.olm_disk.specs.Disk.{Pending}
@@ -20,7 +20,6 @@ use Rattle.olm_io.specs.declared.traits.Outage.TheVariants as outage
 use Rattle.log_store.specs.Adds.{Adds, PutsOn, is_refused}
 use Rattle.log_store.specs.Store.{LogClusterState, fits, has_place, store_history}
 use Rattle.log_store.proofs.Keeping.{one_more}
-use Rattle.log_store.proofs.Opening.{sound_log}
 use Rattle.log_store.proofs.Places.{has_room-true}
 
 -- the file of writes stands for their history
@@ -90,12 +89,6 @@ cause_by_file a b (Ok version) cause = record { later = cause.later; rose = λ e
 cause_by_file a b (Err outage.Failed) cause = record { later = cause.later; rose = λ e. cause.rose refl }
 cause_by_file a b (Err outage.Memory) cause = record { later = cause.later; rose = λ e. absurd (false≢true e) }
 
-sound_by_file : (tells : Bool) (content : List ℕ) (pending : Pending) (gate : ℕ) (ws new : List Write) (w : Write) (result : Result ℕ Outage) (now : Bool)
-    → Adds tells content pending gate ws w new result → now ≡ not (put_failed (answer_of result)) → IsSound tells now (damage_in content)
-sound_by_file tells content pending gate ws new w (Ok version) now (more, at, log) ready told is = sound_log tells content pending (ws ++ w ∷ []) (gate + length (piece w 0)) true log told refl
-sound_by_file tells content pending gate ws new w (Err outage.Failed) now adds ready told is = absurd (false≢true (sym ready ∙ is))
-sound_by_file tells content pending gate ws new w (Err outage.Memory) now (same, log) ready told is = sound_log tells content pending ws gate true log told refl
-
 not_refused : (result : Result ℕ Outage) → is_refused (answer_of result) ≡ true → ⊥
 not_refused (Ok version) e = false≢true e
 not_refused (Err outage.Failed) e = false≢true e
@@ -125,7 +118,6 @@ module _ {D : Type 0} (tells : D → Bool) (content : D → List ℕ) (pending :
         tried = λ e.
             subst (λ k. Agrees k w × (has_room (fits k w) limit k ≡ true)) (sym (told_history (tells old) (content old) (pending old) ws gate ready log is))
             (agrees, has_room-true limit gate ws w log.place room below);
-        sound = sound_by_file (tells disk) (content disk) (pending disk) gate ws new w result now adds (ready_is is);
       })
       is room agrees below
 
@@ -145,6 +137,5 @@ module _ {D : Type 0} (tells : D → Bool) (content : D → List ℕ) (pending :
         ready = is ∙ ap not (sym answered);
         untouched = λ e. refl;
         tried = λ e. absurd (false≢true (sym answered ∙ e));
-        sound = sound_log (tells old) (content old) (pending old) ws gate ready log;
       })
       is

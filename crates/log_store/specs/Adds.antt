@@ -1,12 +1,12 @@
 -- What a write that is to be added leaves.
 use Rattle.std.specs.Prelude.{◌≡◌, ◌⊎◌, ◌+◌, ◌∷◌, ◌++◌, [], ℕ, Bool, true, false, not, List, length, Option, Some, None, Result, Ok, Err}
 use Rattle.cluster_objects.specs.declared.objects.Write.{Write}
-use Rattle.cluster_file.specs.Files.{damage_in, record_form}
+use Rattle.cluster_file.specs.Files.{record_form}
 use Rattle.cluster_file.specs.Writing.{HoldsWrites, piece}
 use Rattle.log_file.specs.Log.{IsLog}
 use Rattle.object_store.specs.declared.cluster.PutAnswer.{PutAnswer}
 use Rattle.object_store.specs.declared.cluster.PutAnswer.TheVariants as put
-use Rattle.object_store.specs.Puts.{Agrees, IsSound, Puts, has_room, put_failed}
+use Rattle.object_store.specs.Puts.{Agrees, Puts, has_room, put_failed}
 use Rattle.olm_disk.specs.Disk.{Pending}
 use Rattle.olm_io.specs.Outside.{HasCause}
 use Rattle.olm_io.specs.declared.traits.Outage.{Outage}
@@ -42,4 +42,3 @@ pub record PutsOn {D : Type 0} (tells : D → Bool) (content : D → List ℕ) (
   pub untouched : is_refused answer ≡ true → new ≡ old
   -- a failed call is none of a conflict, nor where there is no room
   pub tried : let h = store_history (tells old.disk) (content old.disk) old.writes in put_failed answer ≡ true → Agrees h w × (has_room (fits h w) old.limit h ≡ true)
-  pub sound : IsSound (tells new.disk) new.ready (damage_in (content new.disk))

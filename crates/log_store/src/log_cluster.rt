@@ -112,6 +112,7 @@ impl<D: Disk> LogCluster<D> {
         requires agrees { Agrees (history_after self.old.writes) write }
         requires below { length self.old.writes < self.old.limit }
         ensures puts { PutsOn D.tells D.content D.faults self.old write self.new result }
+        ensures whole { IsWhole (D.tells self.new.disk) (D.content self.new.disk) }
         ensures crash { D.tells self.old.disk ≡ true → LeavesOnly D.moment D.left_since self.old.disk self.new.disk (PutLeaves (history_after self.old.writes) write result) }
     {
         match keep(
@@ -176,7 +177,7 @@ impl<D: Disk> Cluster for LogCluster<D> {
         ensures ready { self.new.ready ≡ not (put_failed result) }
         ensures untouched { is_refused result ≡ true → self.new ≡ self.old }
         ensures tried { let h = store_history (D.tells self.old.disk) (D.content self.old.disk) self.old.writes in put_failed result ≡ true → Agrees h write × (has_room (fits h write) self.old.limit h ≡ true) }
-        ensures sound { IsSound (D.tells self.new.disk) self.new.ready (damage_in (D.content self.new.disk)) }
+        ensures sound { IsSound (D.tells self.new.disk) (damage_in (D.content self.new.disk)) }
         ensures crash { D.tells self.old.disk ≡ true → LeavesOnly D.moment D.left_since self.old.disk self.new.disk (PutLeaves (store_history (D.tells self.old.disk) (D.content self.old.disk) self.old.writes) write result) }
     {
         match prepared(alloc, &self.store, self.limit, self.gate, &write) {
@@ -197,7 +198,7 @@ impl<D: Disk> Cluster for LogCluster<D> {
         ensures tells { D.tells self.new.disk ≡ D.tells self.old.disk }
         ensures limit { self.new.limit ≡ self.old.limit }
         ensures cause { HasCause (D.faults self.old.disk) (D.faults self.new.disk) (fault_failed result ≡ true) }
-        ensures sound { IsSound (D.tells self.old.disk) self.old.ready (damage_in (D.content self.old.disk)) → IsSound (D.tells self.new.disk) self.new.ready (damage_in (D.content self.new.disk)) }
+        ensures sound { IsSound (D.tells self.old.disk) (damage_in (D.content self.old.disk)) → IsSound (D.tells self.new.disk) (damage_in (D.content self.new.disk)) }
         ensures ready { self.new.ready ≡ is_ok result }
         ensures kept { D.tells self.old.disk ≡ true → 9 < length (D.content self.old.disk) → D.content self.new.disk ≡ D.content self.old.disk }
         ensures crash { D.tells self.old.disk ≡ true → LeavesOnly D.moment D.left_since self.old.disk self.new.disk (OpeningLeaves (D.content self.old.disk) (D.pending self.old.disk)) }

@@ -47,6 +47,6 @@ Reopens damage (Err fault.Failed) = Unit {0}
 Reopens damage (Err (fault.Damaged at)) = damage ≡ Some at
 Reopens damage (Err fault.Memory) = Unit {0}
 
--- Whether a store tells what its file holds, whether it is ready, and the place of the damage: what a ready store holds stands for a history.
-abbrev pub IsSound : Bool → Bool → Option ℕ → Type 0
-IsSound tells ready damage = tells ≡ true → ready ≡ true → damage ≡ None
+-- Whether a store tells what its file holds, and the place of the damage: what it holds stands for a history.
+abbrev pub IsSound : Bool → Option ℕ → Type 0
+IsSound tells damage = tells ≡ true → damage ≡ None

@@ -64,7 +64,7 @@ pub trait Cluster {
         ensures tells { tells self.new ≡ tells self.old }
         ensures limit { limit self.new ≡ limit self.old }
         ensures cause { HasCause (faults self.old) (faults self.new) (fault_failed result ≡ true) }
-        ensures sound { IsSound (tells self.old) (ready self.old) (damage self.old) → IsSound (tells self.new) (ready self.new) (damage self.new) }
+        ensures sound { IsSound (tells self.old) (damage self.old) → IsSound (tells self.new) (damage self.new) }
         ensures ready { ready self.new ≡ not (fault_failed result) };
 
     /// Appends the write, if its key has the version that it expects and there is room.
@@ -74,7 +74,7 @@ pub trait Cluster {
         ensures tells { tells self.new ≡ tells self.old }
         ensures limit { limit self.new ≡ limit self.old }
         ensures cause { HasCause (faults self.old) (faults self.new) (put_failed result ≡ true) }
-        ensures sound { IsSound (tells self.old) (ready self.old) (damage self.old) → IsSound (tells self.new) (ready self.new) (damage self.new) }
+        ensures sound { IsSound (tells self.old) (damage self.old) → IsSound (tells self.new) (damage self.new) }
         ensures ready { ready self.new ≡ not (put_failed result) };
 
     /// Opens the store again after a fault. A history stays one, also where the store doesn't tell what its file holds.
@@ -85,7 +85,7 @@ pub trait Cluster {
         ensures tells { tells self.new ≡ tells self.old }
         ensures limit { limit self.new ≡ limit self.old }
         ensures cause { HasCause (faults self.old) (faults self.new) (fault_failed result ≡ true) }
-        ensures sound { IsSound (tells self.old) (ready self.old) (damage self.old) → IsSound (tells self.new) (ready self.new) (damage self.new) }
+        ensures sound { IsSound (tells self.old) (damage self.old) → IsSound (tells self.new) (damage self.new) }
         ensures ready { ready self.new ≡ is_ok result };
 }
 

@@ -61,7 +61,7 @@ fn look<C: Cluster>(alloc: Global, key: &Key, cluster: &mut C) -> Result<View, O
     ensures history { C.history cluster.new ≡ C.history cluster.old }
     ensures limit { C.limit cluster.new ≡ C.limit cluster.old }
     ensures tells { C.tells cluster.new ≡ C.tells cluster.old }
-    ensures sound { IsSound (C.tells cluster.old) (C.ready cluster.old) (C.damage cluster.old) → IsSound (C.tells cluster.new) (C.ready cluster.new) (C.damage cluster.new) }
+    ensures sound { IsSound (C.tells cluster.old) (C.damage cluster.old) → IsSound (C.tells cluster.new) (C.damage cluster.new) }
     ensures cause { HasCause (C.faults cluster.old) (C.faults cluster.new) (outage_failed result ≡ true) }
     ensures ready { C.ready cluster.new ≡ not (outage_failed result) }
 {
@@ -120,7 +120,7 @@ fn put<C: Cluster>(alloc: Global, write: Write, cluster: &mut C) -> UserAnswer
     ensures answer { Answers C.fits (C.limit cluster.old) (C.history cluster.old) (λ asked. Ok write ≡ asked) (C.history cluster.new) result }
     ensures limit { C.limit cluster.new ≡ C.limit cluster.old }
     ensures tells { C.tells cluster.new ≡ C.tells cluster.old }
-    ensures sound { IsSound (C.tells cluster.old) (C.ready cluster.old) (C.damage cluster.old) → IsSound (C.tells cluster.new) (C.ready cluster.new) (C.damage cluster.new) }
+    ensures sound { IsSound (C.tells cluster.old) (C.damage cluster.old) → IsSound (C.tells cluster.new) (C.damage cluster.new) }
     ensures cause { HasCause (C.faults cluster.old) (C.faults cluster.new) (store_failed result ≡ true) }
     ensures ready { C.ready cluster.new ≡ not (store_failed result) }
     ensures folder { folder_failed result ≡ false }
@@ -152,7 +152,7 @@ fn put_asked<C: Cluster>(
     ensures answer { Answers C.fits (C.limit cluster.old) (C.history cluster.old) (λ asked. spec.asked_at (C.history cluster.old) key wish ≡ asked) (C.history cluster.new) result }
     ensures limit { C.limit cluster.new ≡ C.limit cluster.old }
     ensures tells { C.tells cluster.new ≡ C.tells cluster.old }
-    ensures sound { IsSound (C.tells cluster.old) (C.ready cluster.old) (C.damage cluster.old) → IsSound (C.tells cluster.new) (C.ready cluster.new) (C.damage cluster.new) }
+    ensures sound { IsSound (C.tells cluster.old) (C.damage cluster.old) → IsSound (C.tells cluster.new) (C.damage cluster.new) }
     ensures cause { HasCause (C.faults cluster.old) (C.faults cluster.new) (store_failed result ≡ true) }
     ensures ready { C.ready cluster.new ≡ not (store_failed result) }
     ensures folder { folder_failed result ≡ false }
@@ -176,7 +176,7 @@ pub(crate) fn carry_out<C: Cluster>(
     ensures answer { Answers C.fits (C.limit cluster.old) (C.history cluster.old) (λ asked. spec.asked_at (C.history cluster.old) key wish ≡ asked) (C.history cluster.new) result }
     ensures limit { C.limit cluster.new ≡ C.limit cluster.old }
     ensures tells { C.tells cluster.new ≡ C.tells cluster.old }
-    ensures sound { IsSound (C.tells cluster.old) (C.ready cluster.old) (C.damage cluster.old) → IsSound (C.tells cluster.new) (C.ready cluster.new) (C.damage cluster.new) }
+    ensures sound { IsSound (C.tells cluster.old) (C.damage cluster.old) → IsSound (C.tells cluster.new) (C.damage cluster.new) }
     ensures cause { HasCause (C.faults cluster.old) (C.faults cluster.new) (store_failed result ≡ true) }
     ensures ready { C.ready cluster.new ≡ not (store_failed result) }
     ensures folder { folder_failed result ≡ false }

@@ -69,7 +69,7 @@ pub fn apply<C: Cluster>(alloc: Global, body: &Bytes, cluster: &mut C) -> UserAn
     ensures body { store_failed result ≡ true → IsOk (user_object body.now) }
     ensures limit { C.limit cluster.new ≡ C.limit cluster.old }
     ensures tells { C.tells cluster.new ≡ C.tells cluster.old }
-    ensures sound { IsSound (C.tells cluster.old) (C.ready cluster.old) (C.damage cluster.old) → IsSound (C.tells cluster.new) (C.ready cluster.new) (C.damage cluster.new) }
+    ensures sound { IsSound (C.tells cluster.old) (C.damage cluster.old) → IsSound (C.tells cluster.new) (C.damage cluster.new) }
     ensures cause { HasCause (C.faults cluster.old) (C.faults cluster.new) (store_failed result ≡ true) }
     ensures ready { C.ready cluster.new ≡ not (store_failed result) }
     ensures folder { folder_failed result ≡ false }
@@ -112,7 +112,7 @@ pub fn delete<C: Cluster>(
     ensures answer { Answers C.fits (C.limit cluster.old) (C.history cluster.old) (λ asked. spec.delete (C.history cluster.old) (record { group = group.now; kind = kind.now; namespace = namespace.now; name = name.now }) ≡ asked) (C.history cluster.new) result }
     ensures limit { C.limit cluster.new ≡ C.limit cluster.old }
     ensures tells { C.tells cluster.new ≡ C.tells cluster.old }
-    ensures sound { IsSound (C.tells cluster.old) (C.ready cluster.old) (C.damage cluster.old) → IsSound (C.tells cluster.new) (C.ready cluster.new) (C.damage cluster.new) }
+    ensures sound { IsSound (C.tells cluster.old) (C.damage cluster.old) → IsSound (C.tells cluster.new) (C.damage cluster.new) }
     ensures cause { HasCause (C.faults cluster.old) (C.faults cluster.new) (store_failed result ≡ true) }
     ensures ready { C.ready cluster.new ≡ not (store_failed result) }
     ensures folder { folder_failed result ≡ false }
@@ -147,7 +147,7 @@ pub fn approve<C: Cluster>(
     ensures answer { Answers C.fits (C.limit cluster.old) (C.history cluster.old) (λ asked. spec.approve (C.history cluster.old) namespace.now name.now ≡ asked) (C.history cluster.new) result }
     ensures limit { C.limit cluster.new ≡ C.limit cluster.old }
     ensures tells { C.tells cluster.new ≡ C.tells cluster.old }
-    ensures sound { IsSound (C.tells cluster.old) (C.ready cluster.old) (C.damage cluster.old) → IsSound (C.tells cluster.new) (C.ready cluster.new) (C.damage cluster.new) }
+    ensures sound { IsSound (C.tells cluster.old) (C.damage cluster.old) → IsSound (C.tells cluster.new) (C.damage cluster.new) }
     ensures cause { HasCause (C.faults cluster.old) (C.faults cluster.new) (store_failed result ≡ true) }
     ensures ready { C.ready cluster.new ≡ not (store_failed result) }
     ensures folder { folder_failed result ≡ false }
@@ -177,7 +177,7 @@ pub fn ready<C: Cluster>(
     ensures answer { Answers C.fits (C.limit cluster.old) (C.history cluster.old) (λ asked. spec.ready (C.history cluster.old) namespace.now name.now state ≡ asked) (C.history cluster.new) result }
     ensures limit { C.limit cluster.new ≡ C.limit cluster.old }
     ensures tells { C.tells cluster.new ≡ C.tells cluster.old }
-    ensures sound { IsSound (C.tells cluster.old) (C.ready cluster.old) (C.damage cluster.old) → IsSound (C.tells cluster.new) (C.ready cluster.new) (C.damage cluster.new) }
+    ensures sound { IsSound (C.tells cluster.old) (C.damage cluster.old) → IsSound (C.tells cluster.new) (C.damage cluster.new) }
     ensures cause { HasCause (C.faults cluster.old) (C.faults cluster.new) (store_failed result ≡ true) }
     ensures ready { C.ready cluster.new ≡ not (store_failed result) }
     ensures folder { folder_failed result ≡ false }
@@ -207,7 +207,7 @@ pub fn retry<C: Cluster>(
     ensures answer { Answers C.fits (C.limit cluster.old) (C.history cluster.old) (λ asked. spec.retry (C.history cluster.old) namespace.now budget ≡ asked) (C.history cluster.new) result }
     ensures limit { C.limit cluster.new ≡ C.limit cluster.old }
     ensures tells { C.tells cluster.new ≡ C.tells cluster.old }
-    ensures sound { IsSound (C.tells cluster.old) (C.ready cluster.old) (C.damage cluster.old) → IsSound (C.tells cluster.new) (C.ready cluster.new) (C.damage cluster.new) }
+    ensures sound { IsSound (C.tells cluster.old) (C.damage cluster.old) → IsSound (C.tells cluster.new) (C.damage cluster.new) }
     ensures cause { HasCause (C.faults cluster.old) (C.faults cluster.new) (store_failed result ≡ true) }
     ensures ready { C.ready cluster.new ≡ not (store_failed result) }
     ensures folder { folder_failed result ≡ false }
@@ -253,7 +253,7 @@ pub fn release<C: Cluster>(alloc: Global, namespace: &Name, cluster: &mut C) -> 
     ensures answer { Answers C.fits (C.limit cluster.old) (C.history cluster.old) (λ asked. spec.release (C.history cluster.old) namespace.now ≡ asked) (C.history cluster.new) result }
     ensures limit { C.limit cluster.new ≡ C.limit cluster.old }
     ensures tells { C.tells cluster.new ≡ C.tells cluster.old }
-    ensures sound { IsSound (C.tells cluster.old) (C.ready cluster.old) (C.damage cluster.old) → IsSound (C.tells cluster.new) (C.ready cluster.new) (C.damage cluster.new) }
+    ensures sound { IsSound (C.tells cluster.old) (C.damage cluster.old) → IsSound (C.tells cluster.new) (C.damage cluster.new) }
     ensures cause { HasCause (C.faults cluster.old) (C.faults cluster.new) (store_failed result ≡ true) }
     ensures ready { C.ready cluster.new ≡ not (store_failed result) }
     ensures folder { folder_failed result ≡ false }
@@ -293,7 +293,7 @@ pub fn write_catalog<C: Cluster>(
     ensures answer { Answers C.fits (C.limit cluster.old) (C.history cluster.old) (λ asked. spec.catalog (C.history cluster.old) namespace.now name.now body priority ≡ asked) (C.history cluster.new) result }
     ensures limit { C.limit cluster.new ≡ C.limit cluster.old }
     ensures tells { C.tells cluster.new ≡ C.tells cluster.old }
-    ensures sound { IsSound (C.tells cluster.old) (C.ready cluster.old) (C.damage cluster.old) → IsSound (C.tells cluster.new) (C.ready cluster.new) (C.damage cluster.new) }
+    ensures sound { IsSound (C.tells cluster.old) (C.damage cluster.old) → IsSound (C.tells cluster.new) (C.damage cluster.new) }
     ensures cause { HasCause (C.faults cluster.old) (C.faults cluster.new) (store_failed result ≡ true) }
     ensures ready { C.ready cluster.new ≡ not (store_failed result) }
     ensures folder { folder_failed result ≡ false }

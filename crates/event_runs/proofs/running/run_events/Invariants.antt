@@ -15,7 +15,7 @@ invariant-events g l = record {
   same : g.F.Folder.held l.folder ≡ g.F.Folder.held l.fn.folder;
   untouched : list_any is_of_folder l.events ≡ false → l.folder ≡ l.fn.folder;
   ready : g.C.Cluster.ready l.cluster ≡ true;
-  sound : IsSound (g.C.Cluster.tells l.cluster) (g.C.Cluster.ready l.cluster) (g.C.Cluster.damage l.cluster);
+  sound : IsSound (g.C.Cluster.tells l.cluster) (g.C.Cluster.damage l.cluster);
   store : g.C.Cluster.faults l.fn.cluster ≤ g.C.Cluster.faults l.cluster;
   folder : g.F.Folder.faults l.fn.folder ≤ g.F.Folder.faults l.folder;
   output : g.O.Sink.faults l.fn.out ≤ g.O.Sink.faults l.out;

@@ -1,6 +1,9 @@
 use Rattle.std.proofs.Common.{sym, subst}
 use Rattle.olm_disk.specs.Disk.{LeavesOnly}
+use Rattle.cluster_file.specs.Files.{damage_in}
+use Rattle.object_store.specs.Puts.{IsSound}
 use Rattle.log_store.specs.Crashes.{PutLeaves}
+use Rattle.log_store.specs.Store.{LogClusterState}
 use Rattle.log_store.proofs.Crashing.{leaves_nothing, told_writes}
 use Rattle.log_store.proofs.Putting.{puts_nothing}
 use Rattle.log_store.proofs.log_cluster.LogClusterCluster.put.Goals as goal
@@ -13,9 +16,7 @@ returns-in-Err-clause-puts g c =
 
 pub returns-in-Err-clause-sound : goal.returns-in-Err-clause-sound
 returns-in-Err-clause-sound g c =
-    let s = c.self.inside in
-    (puts_nothing g.D.Disk.tells g.D.Disk.content g.D.Disk.pending g.D.Disk.faults c.args.self.now s.disk s.limit s.gate s.ready s.store.1 c.args.write c.in-Err.answer
-    c.self.view_is c.self.invariant.1 c.requires c.in-Err.ensures.refused c.in-Err.ensures.answered).sound
+    subst (λ (s : LogClusterState g.row.D.Denot). IsSound (g.D.Disk.tells s.disk) (damage_in (g.D.Disk.content s.disk))) c.self.view_is c.self.invariant.2
 
 pub returns-in-Ok-clause-crash : goal.returns-in-Ok-clause-crash
 returns-in-Ok-clause-crash g c told =

@@ -14,5 +14,6 @@ mod subscribing;
 mod turns;
 
 pub use laws::{names_are_short, plans_are_new};
-pub use plans::plan_of;
+pub use plans::{plan_of, taken_by};
 pub use refusal::PlanRefusal;
+pub use subscribing::is_manual;

@@ -154,7 +154,8 @@ fn new_plan(number: u64, manual: bool, steps: Many<Step>) -> PlanStatus
     }
 }
 
-fn taken_by(outcome: &Outcome) -> &[Taken]
+/// What a resolution takes.
+pub fn taken_by(outcome: &Outcome) -> &[Taken]
     ensures { result.now ≡ spec.taken_by outcome.now }
 {
     match outcome {

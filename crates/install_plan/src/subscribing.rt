@@ -27,7 +27,7 @@ fn takes_package(taken: &[Taken], name: &Name) -> bool
 }
 
 /// Whether a plan for this is to be approved.
-pub(crate) fn is_manual(subscriptions: &[(Name, SubSpec)], taken: &[Taken]) -> bool
+pub fn is_manual(subscriptions: &[(Name, SubSpec)], taken: &[Taken]) -> bool
     ensures { result ≡ spec.is_manual subscriptions.now taken.now }
 {
     subscriptions.iter().any(|subscription| subscription.1.manual

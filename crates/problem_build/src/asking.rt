@@ -108,7 +108,7 @@ fn is_tip_of(tip: &Tip, package: &Name) -> bool
 }
 
 /// The first tip of a package.
-pub(crate) fn installed<'a>(tips: &'a [Tip], package: &Name) -> Option<&'a Tip>
+pub fn installed<'a>(tips: &'a [Tip], package: &Name) -> Option<&'a Tip>
     ensures { option_copied result ≡ asking.installed tips.now «package».now }
 {
     tips.iter().find(|tip| is_tip_of(tip, package))
@@ -147,7 +147,7 @@ fn upgrades_in(
 }
 
 /// The upgrades from the installed one of the subscription's package, in channel order.
-pub(crate) fn upgrades_from(
+pub fn upgrades_from(
     alloc: Global,
     catalogs: &[Visible],
     tips: &[Tip],

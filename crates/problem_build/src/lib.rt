@@ -19,6 +19,7 @@ mod reaching;
 mod rows;
 mod shared;
 
+pub use asking::{installed, upgrades_from};
 pub use building::{BuildFault, Built};
 pub use laws::{
     named_variables_are_there, packages_and_kinds_are_once, picks_are_entries_or_tips,

@@ -18,5 +18,5 @@ pub use forward::is_forward;
 pub use laws::{
     catalogs_are_in_order, installed_is_first, names_are_in_order, valid_breaks_nothing,
 };
-pub use tips::{installed_of, tip_offer, tip_version, tips_of};
+pub use tips::{csv_in, installed_of, is_replaced, kind_of, tip_offer, tip_version, tips_of};
 pub use visible::{Visible, catalogs_of};

@@ -16,8 +16,8 @@ use semver::{Error, Version};
 use std::alloc::{AllocError, Global};
 use std::str;
 
-// The CSV of the slot, if one of this namespace stands there.
-fn csv_in<'a>(namespace: &Name, entry: &'a (Key, Shared)) -> Option<&'a CsvStatus>
+/// The CSV of the slot, if one of this namespace stands there.
+pub fn csv_in<'a>(namespace: &Name, entry: &'a (Key, Shared)) -> Option<&'a CsvStatus>
     ensures { option_copied result ≡ spec.csv_in namespace.now entry.now }
 {
     if entry.0.namespace.as_slice() != namespace.as_bytes() || !is_csv_key(&entry.0) {
@@ -53,7 +53,8 @@ fn names_another(namespace: &Name, name: &Name, entry: &(Key, Shared)) -> bool
     }
 }
 
-fn is_replaced(view: &View, name: &Name) -> bool
+/// Whether another CSV of the view's namespace names this one in `replaces`.
+pub fn is_replaced(view: &View, name: &Name) -> bool
     ensures { result ≡ spec.is_replaced view.now name.now }
 {
     let namespace = view.namespace();
@@ -81,7 +82,8 @@ fn group_of(alloc: Global, name: &Name) -> Result<Text, Memory>
     }
 }
 
-fn kind_of(alloc: Global, crd: &Crd) -> Result<Gvk, Memory>
+/// The kind that a custom resource definition is of.
+pub fn kind_of(alloc: Global, crd: &Crd) -> Result<Gvk, Memory>
     ensures { IfOk result (λ kind. kind ≡ spec.kind_of crd.now) }
 {
     Ok(Gvk {

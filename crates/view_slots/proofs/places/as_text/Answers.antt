@@ -1,0 +1,8 @@
+use Rattle.std.proofs.Common.{sym, subst}
+use Rattle.std.specs.Str.{IsUtf8}
+use Rattle.view_slots.proofs.Ascii.{name_is_text}
+use Rattle.view_slots.proofs.places.as_text.Goals as goal
+
+pub unreachable-requires : goal.unreachable-requires
+unreachable-requires c =
+    c.in-Err.ensures.cases.0 (subst IsUtf8 (sym c.as_bytes.ensures.bytes) (name_is_text c.args.name.now c.as_bytes.ensures.name))

@@ -1,0 +1,5 @@
+pub mod Fresh
+pub mod InstallNames
+pub mod Same
+pub mod Writing
+pub mod Written

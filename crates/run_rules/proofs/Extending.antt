@@ -8,10 +8,12 @@ use Rattle.controller_rules.specs.Enabled.{IsQuiet}
 use Rattle.run_rules.specs.Acting as acting
 use Rattle.run_rules.specs.Leasing as leasing
 use Rattle.run_rules.specs.Leasing.{write_of}
-use Rattle.run_rules.specs.Outcomes.{Arrived, Conflict, Done, Fault, HeldUntil, Idle, Leased, Looked, NoView, NoWorker, Outcome, Put, Refused, Restarted, Settled, Stale}
+use Rattle.run_rules.specs.declared.outcomes.Outcome.{Outcome}
+use Rattle.run_rules.specs.declared.outcomes.Outcome.TheVariants.{Arrived, Conflict, Done, Fault, HeldUntil, Idle, Leased, Looked, NoView, NoWorker, Put, Refused, Restarted, Settled, Stale}
 use Rattle.run_rules.specs.Runs as runs
 use Rattle.run_rules.specs.Settling as settling
-use Rattle.run_rules.specs.States.{Asking, IsLeft, Outside, State, With, Without, Worker, begun, present}
+use Rattle.run_rules.specs.States.{Asking, IsLeft, Outside, State, With, Without, begun, present}
+use Rattle.run_rules.specs.declared.workers.Worker.{Worker}
 
 -- ---- histories that go on from one another
 
@@ -46,7 +48,7 @@ module _ (outside : Outside) (tells : outside.tells ≡ true) where
   acts h worker new outcome (acting.Conflicts view w may first other) = same h
   acts h worker new outcome (acting.Makes view w may first agrees room) = one w h
   acts h worker new outcome (acting.Loses view w end may first is) = left h w end is
-  acts h worker new outcome (acting.TermFails view holds fenced) = same h
+  acts h worker new outcome (acting.TermFails view end holds fenced again) = ([], again tells)
 
   turns : (namespace : List ℕ) (n : ℕ) (h new : History) → settling.Turns outside namespace n h new → Extends h new
   turns namespace n h new (settling.NoTurn start) = same start
@@ -57,7 +59,9 @@ module _ (outside : Outside) (tells : outside.tells ≡ true) where
       → settling.Settles outside namespace most h new outcome → Extends h new
   settles namespace most h new outcome (settling.Rests n end within all quiet) = turns namespace n h end all
   settles namespace most h new outcome (settling.Ends end w all more) = turns namespace most h end all
-  settles namespace most h new outcome (settling.LookFails n end within all) = turns namespace n h end all
+  settles namespace most h new outcome (settling.LookFails n mid end within all again) =
+      then h mid end (turns namespace n h mid all) ([], again tells)
+  settles namespace most h new outcome (settling.Blocked n end w within all is other) = turns namespace n h end all
   settles namespace most h new outcome (settling.Loses n mid w end within all is lost) =
       then h mid end (turns namespace n h mid all) (left mid w end lost)
 
@@ -74,10 +78,10 @@ module _ (outside : Outside) (tells : outside.tells ≡ true) where
   passes Asks s e new outcome (runs.Writes by w users asks room) = one w s.history
   passes Asks s e new outcome (runs.Refuses by reason users asks) = same s.history
   passes Asks s e new outcome (runs.Loses by w end users asks lost) = left s.history w end lost
-  passes Asks s e new outcome (runs.Fails by users) = same s.history
+  passes Asks s e new outcome (runs.Fails by end users again) = ([], again tells)
   passes Asks s e new outcome (runs.Comes by role namespace is) = same s.history
   passes Asks s e new outcome (runs.Looks number worker there) = same s.history
-  passes Asks s e new outcome (runs.LookFails number worker there) = same s.history
+  passes Asks s e new outcome (runs.LookFails number worker end there again) = ([], again tells)
   passes Asks s e new outcome (runs.Acted number worker end says there is) = acts s.history worker end says is
   passes Asks s e new outcome (runs.HasSettled namespace most end says is) =
       settles namespace (settling.turns_of most) s.history end says is
@@ -170,12 +174,14 @@ pub count : (outside : Outside) (namespace : List ℕ) (most : ℕ) (h new : His
     → settling.Settles outside namespace most h new outcome → is_settled outcome ≡ true → position new ≡ position h + told outcome
 count outside namespace most h new outcome (settling.Rests n end within all quiet) says = counted outside namespace n h end all
 count outside namespace most h new outcome (settling.Ends end w all more) says = counted outside namespace most h end all
-count outside namespace most h new outcome (settling.LookFails n end within all) says = none says
+count outside namespace most h new outcome (settling.LookFails n mid end within all again) says = none says
+count outside namespace most h new outcome (settling.Blocked n end w within all is other) says = counted outside namespace n h end all
 count outside namespace most h new outcome (settling.Loses n mid w end within all is lost) says = none says
 
 pub is_quiet : (outside : Outside) (namespace : List ℕ) (most : ℕ) (h new : History) (outcome : Outcome)
     → settling.Settles outside namespace most h new outcome → tells_quiet outcome ≡ true → IsQuiet (present new namespace)
 is_quiet outside namespace most h new outcome (settling.Rests n end within all quiet) says = quiet
 is_quiet outside namespace most h new outcome (settling.Ends end w all more) says = absurd (none says)
-is_quiet outside namespace most h new outcome (settling.LookFails n end within all) says = absurd (none says)
+is_quiet outside namespace most h new outcome (settling.LookFails n mid end within all again) says = absurd (none says)
+is_quiet outside namespace most h new outcome (settling.Blocked n end w within all is other) says = absurd (none says)
 is_quiet outside namespace most h new outcome (settling.Loses n mid w end within all is lost) says = absurd (none says)

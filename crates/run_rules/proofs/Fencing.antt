@@ -5,8 +5,10 @@ use Rattle.cluster_objects.specs.declared.keys.Key.{Key}
 use Rattle.cluster_history.specs.History.{History}
 use Rattle.lease_fence.specs.declared.terms.Term.TheVariants as terms
 use Rattle.run_rules.specs.Acting.{Acts, Conflicts, HasNoView, HasNone, IsStale, Loses, Makes, TermFails, is_stale, present_term}
-use Rattle.run_rules.specs.Outcomes.{Arrived, Conflict, Done, Fault, HeldUntil, Idle, Leased, Looked, NoView, NoWorker, Outcome, Put, Refused, Restarted, Settled, Stale}
-use Rattle.run_rules.specs.States.{Outside, Worker}
+use Rattle.run_rules.specs.declared.outcomes.Outcome.{Outcome}
+use Rattle.run_rules.specs.declared.outcomes.Outcome.TheVariants.{Arrived, Conflict, Done, Fault, HeldUntil, Idle, Leased, Looked, NoView, NoWorker, Put, Refused, Restarted, Settled, Stale}
+use Rattle.run_rules.specs.States.{Outside}
+use Rattle.run_rules.specs.declared.workers.Worker.{Worker}
 
 abbrev is_put : Outcome → Bool
 is_put (Done key version) = false
@@ -37,7 +39,7 @@ fresh outside h new worker outcome (HasNone view may first) put = none put
 fresh outside h new worker outcome (Conflicts view w may first other) put = none put
 fresh outside h new worker outcome (Makes view w may first same room) put = may.fresh
 fresh outside h new worker outcome (Loses view w left may first is) put = none put
-fresh outside h new worker outcome (TermFails view holds fenced) put = none put
+fresh outside h new worker outcome (TermFails view left holds fenced again) put = none put
 
 denied : (b : Bool) → not b ≡ false → b ≡ true
 denied true h = refl

@@ -7,9 +7,10 @@ use Rattle.cluster_history.specs.Views.{View, is_visible, view}
 use Rattle.cluster_history.specs.declared.slots.Base.{Base}
 use Rattle.cluster_history.proofs.Seeing.{first-after_all, longer}
 use Rattle.event_script.specs.declared.events.Event.{Event}
-use Rattle.run_rules.specs.Outcomes.{Outcome}
+use Rattle.run_rules.specs.declared.outcomes.Outcome.{Outcome}
 use Rattle.run_rules.specs.Runs as runs
-use Rattle.run_rules.specs.States.{Asking, Outside, State, Worker, arrived, begun, looked, present, restarted}
+use Rattle.run_rules.specs.States.{Asking, Outside, State, arrived, begun, looked, present, restarted}
+use Rattle.run_rules.specs.declared.workers.Worker.{Worker}
 use Rattle.run_rules.proofs.Extending.{Extends, passes}
 
 -- ---- one worker
@@ -90,7 +91,7 @@ module _ (outside : Outside) where
   keeps Asks s e new outcome (runs.Writes by w users asks room) goes each = kept s.history (After w s.history) s.workers goes each
   keeps Asks s e new outcome (runs.Refuses by reason users asks) goes each = each
   keeps Asks s e new outcome (runs.Loses by w end users asks lost) goes each = kept s.history end s.workers goes each
-  keeps Asks s e new outcome (runs.Fails by users) goes each = each
+  keeps Asks s e new outcome (runs.Fails by end users again) goes each = kept s.history end s.workers goes each
   keeps Asks s e new outcome (runs.Comes by role namespace is) goes each = λ i w at.
       elim (push_get s.workers i (arrived role namespace) w at) [
         | inl e ↦ subst (Held s.history) (sym e) (no_view s.history (arrived role namespace) refl)
@@ -101,7 +102,7 @@ module _ (outside : Outside) where
         | inl e ↦ subst (Held s.history) (sym e) (just_looked s.history worker)
         | inr old ↦ each i w old
       ]
-  keeps Asks s e new outcome (runs.LookFails number worker there) goes each = each
+  keeps Asks s e new outcome (runs.LookFails number worker end there again) goes each = kept s.history end s.workers goes each
   keeps Asks s e new outcome (runs.Acted number worker end says there is) goes each = kept s.history end s.workers goes each
   keeps Asks s e new outcome (runs.HasSettled namespace most end says is) goes each = kept s.history end s.workers goes each
   keeps Asks s e new outcome (runs.Requested number now keep worker end term says there is) goes each = λ i w at.

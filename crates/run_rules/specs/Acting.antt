@@ -7,8 +7,10 @@ use Rattle.lease_fence.specs.Leases.{term}
 use Rattle.lease_fence.specs.declared.terms.Term.{Term}
 use Rattle.lease_fence.specs.declared.terms.Term.TheVariants as terms
 use Rattle.controller_rules.specs.Enabled.{IsFirst, writer_of}
-use Rattle.run_rules.specs.Outcomes.{Conflict, Fault, Idle, NoView, Outcome, Put, Stale}
-use Rattle.run_rules.specs.States.{IsLeft, Outside, Worker}
+use Rattle.run_rules.specs.declared.outcomes.Outcome.{Outcome}
+use Rattle.run_rules.specs.declared.outcomes.Outcome.TheVariants.{Conflict, Fault, Idle, NoView, Put, Stale}
+use Rattle.run_rules.specs.States.{IsLeft, IsReopened, Outside}
+use Rattle.run_rules.specs.declared.workers.Worker.{Worker}
 
 -- the present term of the lease of the worker's role
 abbrev pub present_term : History → Worker → ℕ
@@ -51,4 +53,5 @@ pub data Acts (outside : Outside) (h : History) (worker : Worker) : History → 
   Loses : (view : View) (w : Write) (new : History) → MayAct h worker view → IsFirst worker.role view (Some w)
       → IsLeft outside h w new → Acts outside h worker new Fault
   -- the present term can't be read
-  TermFails : (view : View) → worker.view ≡ Some view → is_fenced worker.term ≡ true → Acts outside h worker h Fault
+  TermFails : (view : View) (new : History) → worker.view ≡ Some view → is_fenced worker.term ≡ true
+      → IsReopened outside h new → Acts outside h worker new Fault

@@ -8,10 +8,12 @@ use Rattle.lease_fence.specs.declared.terms.Term.TheVariants as terms
 use Rattle.run_rules.specs.Acting.{Acts, present_term}
 use Rattle.event_script.specs.declared.events.Event.{Event}
 use Rattle.controller_rules.specs.Enabled.{IsQuiet}
-use Rattle.run_rules.specs.Outcomes.{Outcome, Put, Settled}
+use Rattle.run_rules.specs.declared.outcomes.Outcome.{Outcome}
+use Rattle.run_rules.specs.declared.outcomes.Outcome.TheVariants.{Put, Settled}
 use Rattle.run_rules.specs.Runs.{AllPass, Runs}
 use Rattle.run_rules.specs.Settling.{Settles}
-use Rattle.run_rules.specs.States.{Asking, Outside, State, Worker, begun, present}
+use Rattle.run_rules.specs.States.{Asking, Outside, State, begun, present}
+use Rattle.run_rules.specs.declared.workers.Worker.{Worker}
 
 -- A worker that holds a term puts a write only where the lease of its role has this term.
 abbrev pub FencedPutsHoldTheTerm : Type 0

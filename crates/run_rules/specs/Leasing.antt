@@ -10,8 +10,10 @@ use Rattle.lease_fence.specs.declared.terms.Grant.TheVariants as grant
 use Rattle.lease_fence.specs.declared.terms.Term.{Term}
 use Rattle.lease_fence.specs.declared.terms.Term.TheVariants as terms
 use Rattle.controller_rules.specs.Enabled.{writer_of}
-use Rattle.run_rules.specs.Outcomes.{Fault, HeldUntil, Leased, Outcome}
-use Rattle.run_rules.specs.States.{IsLeft, IsReopened, Outside, Worker}
+use Rattle.run_rules.specs.declared.outcomes.Outcome.{Outcome}
+use Rattle.run_rules.specs.declared.outcomes.Outcome.TheVariants.{Fault, HeldUntil, Leased}
+use Rattle.run_rules.specs.States.{IsLeft, IsReopened, Outside}
+use Rattle.run_rules.specs.declared.workers.Worker.{Worker}
 
 -- what is granted to the worker of a number, at a moment and for so long
 abbrev pub granted_to : History → ℕ → Worker → ℕ → ℕ → Grant

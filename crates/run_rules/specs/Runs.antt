@@ -9,9 +9,11 @@ use Rattle.event_script.specs.declared.events.Event.TheVariants as event
 use Rattle.controller_rules.specs.declared.roles.Role.{Role}
 use Rattle.run_rules.specs.Acting.{Acts}
 use Rattle.run_rules.specs.Leasing.{Leases}
-use Rattle.run_rules.specs.Outcomes.{Arrived, Done, Fault, Looked, NoWorker, Outcome, Refused, Restarted}
+use Rattle.run_rules.specs.declared.outcomes.Outcome.{Outcome}
+use Rattle.run_rules.specs.declared.outcomes.Outcome.TheVariants.{Arrived, Done, Fault, Looked, NoWorker, Refused, Restarted}
 use Rattle.run_rules.specs.Settling.{Settles, turns_of}
-use Rattle.run_rules.specs.States.{Asking, IsLeft, IsReopened, Outside, State, Worker, begun, looked, restarted, role_of, with_arrived, with_history, with_worker}
+use Rattle.run_rules.specs.States.{Asking, IsLeft, IsReopened, Outside, State, begun, looked, restarted, role_of, with_arrived, with_history, with_worker}
+use Rattle.run_rules.specs.declared.workers.Worker.{Worker}
 
 -- ---- one event
 
@@ -57,15 +59,16 @@ pub data Passes (Asks : Asking) (outside : Outside) (s : State) : Event → Stat
       → Passes Asks outside s e s (Refused reason)
   Loses : (e : Event) (w : Write) (new : History) → is_users e ≡ true → Asks s.history e (Ok w)
       → IsLeft outside s.history w new → Passes Asks outside s e (with_history s new) Fault
-  Fails : (e : Event) → is_users e ≡ true → Passes Asks outside s e s Fault
+  Fails : (e : Event) (new : History) → is_users e ≡ true → IsReopened outside s.history new
+      → Passes Asks outside s e (with_history s new) Fault
   -- a worker comes, and gets the next number
   Comes : (by : Writer) (role : Role) (namespace : List ℕ) → role_of by ≡ Some role
       → Passes Asks outside s (event.Worker by namespace) (with_arrived s role namespace) (Arrived (length s.workers))
   -- a worker takes the present view, or can't
   Looks : (number : ℕ) (worker : Worker) → slice_get s.workers number ≡ Some worker
       → Passes Asks outside s (event.Look number) (with_worker s number (looked s.history worker)) (Looked (position s.history))
-  LookFails : (number : ℕ) (worker : Worker) → slice_get s.workers number ≡ Some worker
-      → Passes Asks outside s (event.Look number) s Fault
+  LookFails : (number : ℕ) (worker : Worker) (new : History) → slice_get s.workers number ≡ Some worker
+      → IsReopened outside s.history new → Passes Asks outside s (event.Look number) (with_history s new) Fault
   -- a worker acts, and keeps its view
   Acted : (number : ℕ) (worker : Worker) (new : History) (outcome : Outcome) → slice_get s.workers number ≡ Some worker
       → Acts outside s.history worker new outcome → Passes Asks outside s (event.Act number) (with_history s new) outcome

@@ -1,13 +1,14 @@
 -- What a settle comes to.
-use Rattle.std.specs.Prelude.{◌≡◌, ◌≤◌, ◌<◌, ◌+◌, true, false, ℕ, List, Option, Some, None}
+use Rattle.std.specs.Prelude.{◌≡◌, ◌≢◌, ◌≤◌, ◌<◌, ◌+◌, true, false, ℕ, List, Option, Some, None}
 use Rattle.cluster_objects.specs.declared.objects.Write.{Write}
-use Rattle.cluster_history.specs.History.{After, History}
+use Rattle.cluster_history.specs.History.{After, History, slot}
 use Rattle.cluster_history.specs.Views.{View}
 use Rattle.object_store.specs.Puts.{Agrees}
 use Rattle.controller_rules.specs.Enabled.{IsFirst, IsQuiet}
 use Rattle.controller_rules.specs.declared.roles.Role.TheVariants.{Resolver, Installer, Phases}
-use Rattle.run_rules.specs.Outcomes.{Fault, Outcome, Settled}
-use Rattle.run_rules.specs.States.{IsLeft, Outside, present}
+use Rattle.run_rules.specs.declared.outcomes.Outcome.{Outcome}
+use Rattle.run_rules.specs.declared.outcomes.Outcome.TheVariants.{Fault, Settled}
+use Rattle.run_rules.specs.States.{IsLeft, IsReopened, Outside, present}
 
 -- The write of a turn: the first one of the first role that has one, of resolver, installer and phases.
 pub data IsTurn (view : View) (w : Write) : Type 0 where
@@ -30,7 +31,12 @@ pub data Settles (outside : Outside) (namespace : List ℕ) (turns : ℕ) (h : H
   Ends : (new : History) (w : Write) → Turns outside namespace turns h new → IsTurn (present new namespace) w
       → Settles outside namespace turns h new (Settled turns false)
   -- after some turns no view can be taken
-  LookFails : (n : ℕ) (new : History) → n ≤ turns → Turns outside namespace n h new → Settles outside namespace turns h new Fault
+  LookFails : (n : ℕ) (mid new : History) → n ≤ turns → Turns outside namespace n h mid → IsReopened outside mid new
+      → Settles outside namespace turns h new Fault
+  -- the key of a turn's write has another version than the write expects
+  Blocked : (n : ℕ) (new : History) (w : Write) → n ≤ turns → Turns outside namespace n h new
+      → IsTurn (present new namespace) w → w.expect ≢ (slot new w.key).version
+      → Settles outside namespace turns h new (Settled n false)
   -- the answer to a turn's write is lost
   Loses : (n : ℕ) (mid : History) (w : Write) (new : History) → n < turns → Turns outside namespace n h mid
       → IsTurn (present mid namespace) w → IsLeft outside mid w new → Settles outside namespace turns h new Fault

@@ -11,15 +11,9 @@ use Rattle.lease_fence.specs.declared.terms.Term.TheVariants as terms
 use Rattle.event_script.specs.declared.events.Event.{Event}
 use Rattle.controller_rules.specs.declared.roles.Role.{Role}
 use Rattle.controller_rules.specs.declared.roles.Role.TheVariants.{Resolver, Installer, Phases}
+use Rattle.run_rules.specs.declared.workers.Worker.{Worker}
 
 -- ---- the state
-
--- A worker has a role and a namespace, what it holds of its role's lease, and the view that it took last, if it looked.
-pub record Worker : Type 0 where
-  pub role : Role
-  pub namespace : List ℕ
-  pub term : Term
-  pub view : Option View
 
 -- A history, and the workers, which are numbered from 0 in the order in which they came.
 pub record State : Type 0 where

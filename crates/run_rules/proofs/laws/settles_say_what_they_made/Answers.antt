@@ -1,5 +1,5 @@
 use Rattle.std.proofs.Common.{refl, true}
-use Rattle.run_rules.specs.Outcomes.{Settled}
+use Rattle.run_rules.specs.declared.outcomes.Outcome.TheVariants.{Settled}
 use Rattle.run_rules.proofs.Extending.{count, is_quiet}
 use Rattle.run_rules.proofs.laws.settles_say_what_they_made.Goals as goal
 

@@ -1,0 +1,5 @@
+pub mod Nexting
+pub mod Judging
+pub mod Trying
+pub mod Turning
+pub mod Going

@@ -1,0 +1,12 @@
+pub mod Carrying
+pub mod Claims
+pub mod Csvs
+pub mod Installing
+pub mod Kept
+pub mod Leases
+pub mod Phasing
+pub mod Plans
+pub mod Resolutions
+pub mod Separate
+pub mod Sparing
+pub mod Subscriptions

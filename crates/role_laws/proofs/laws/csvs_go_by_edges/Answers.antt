@@ -1,0 +1,6 @@
+use Rattle.cluster_history.specs.History.{After}
+use Rattle.role_laws.proofs.Csvs.{csv_goes}
+use Rattle.role_laws.proofs.laws.csvs_go_by_edges.Goals as goal
+
+pub returns : goal.returns
+returns c is_valid h w key accepts kept = csv_goes is_valid h w key (c.roles_are_lawful.ensures.lawful is_valid (After w h) accepts kept) kept
